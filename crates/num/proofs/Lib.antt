@@ -1,0 +1,3 @@
+pub mod Bits
+pub mod Lists
+pub mod Signed

@@ -1,0 +1,22 @@
+-- Differences of natural numbers as signed numbers, and what the machine reads back of the signed number that it holds.
+-- Assumes nothing.
+use mathlib.Core.Path.{_≡_, refl, sym, ap, _∙_, subst}
+use mathlib.Core.Bool.{Bool, true, false, not}
+use Prim.Native.Nat.{ℕ, zero, suc, _+_, _-_, _≤_, _<_}
+use native.Mathlib.Omega.{arith}
+use lib.Dec.{T, ltb→lt}
+use lib.IntN.{ℤ, pos, negsuc, subℕ, _-ℤ_}
+use lib.Signed.{mag, ltZ}
+use borrow.Author.Tests.{le-ltb}
+
+pub sub-ge : (a b : ℕ) → b ≤ a → subℕ a b ≡ pos (a - b)
+sub-ge a b h = rw (le-ltb a b h)
+
+-- -1 less a negative number is its complement
+pub complement : (x : ℤ) → T (ltZ x (pos 0)) → negsuc 0 -ℤ x ≡ pos (mag x)
+complement (pos n) t = absurd (omega (arith, ltb→lt n 0 t))
+complement (negsuc n) t = sub-ge (suc n) 1 (omega arith) ∙ ap pos (omega arith)
+
+pub positive : (x : ℤ) → T (not (ltZ x (pos 0))) → x ≡ pos (mag x)
+positive (pos n) t = refl
+positive (negsuc n) t = absurd t
