@@ -20,3 +20,8 @@ complement (negsuc n) t = sub-ge (suc n) 1 (omega arith) ∙ ap pos (omega arith
 pub positive : (x : ℤ) → T (not (ltZ x (pos 0))) → x ≡ pos (mag x)
 positive (pos n) t = refl
 positive (negsuc n) t = absurd t
+
+-- -1 less n
+pub minus-one : (n : ℕ) → negsuc 0 -ℤ pos n ≡ negsuc n
+minus-one zero = refl
+minus-one (suc n) = ap negsuc (omega arith)

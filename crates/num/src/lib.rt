@@ -2,6 +2,7 @@
 ghost use mathlib.Core.Path.{_≡_};
 ghost use Prim.Native.Nat.{max};
 ghost use lib.Signed.{mag};
+ghost use Rattle.num.specs.Halves.{fromHalves};
 
 // A negative number complemented, -1 - x, and any other as it is.
 pub fn complemented(x: i16) -> u32
@@ -14,4 +15,16 @@ pub fn larger(a: u32, b: u32) -> u32
     ensures { λ r. ⌜ r ≡ max a b ⌝ }
 {
     if a < b { b } else { a }
+}
+
+// The signed number that two bytes are, the high one first.
+pub fn from_halves(high: u8, low: u8) -> i16
+    ensures { λ r. ⌜ r ≡ fromHalves high low ⌝ }
+{
+    let bits = (high as u32) * 256 + (low as u32);
+    if high < 128 {
+        bits as i16
+    } else {
+        -1 - (65535 - bits) as i16
+    }
 }

@@ -27,9 +27,9 @@ module _ (n : ℕ) (low : 33 ≤ n) (high : n ≤ 8191) where
   eight : 32 - leadingZeros 32 n - 6 < 8
   eight = rw length-is (let l = length-le 13 n (omega arith) in omega arith)
 
-clipped-code : (x : ℤ) → 8191 < kept mu-law x → bitXor (joined x 7 15) 255 ≡ codeOf mu-law x
+clipped-code : (x : ℤ) (n : ℕ) → n ≡ kept mu-law x → 8191 < n → bitXor (joined x 7 15) 255 ≡ codeOf mu-law x
 unfolding codeOf segment fourBits
-clipped-code x h = rw (lt-ltb 8191 (kept mu-law x) h)
+clipped-code x n e h = rw (lt-ltb 8191 (kept mu-law x) (rw e at h))
 
 coded : (x : ℤ) (n : ℕ) → n ≡ kept mu-law x → n ≤ 8191 → bitXor (joined x (32 - leadingZeros 32 n - 6) (n / 2 ^ (32 - leadingZeros 32 n - 6 + 1) % 16)) 255 ≡ codeOf mu-law x
 unfolding codeOf segment fourBits
@@ -44,7 +44,8 @@ complemented-requires c κs = search needs
 
 add-inputval : tie.Need-add-inputval
 add-inputval c =
-    let s = c .before in rw (sum-is c) (omega (arith, mag-shr (s .args .linear) 4, s .fits .linear .sfits))
+    let s = c .before in
+    omega (arith, sum-is c, mag-shr (s .args .linear) 4, s .fits .linear .sfits)
 
 code-word-requires : tie.Need-code-word-requires
 code-word-requires c κs = search needs
@@ -54,7 +55,7 @@ returns c =
     let s = c .before .before in
     c .code-word .ensures
     ∙ code-is _ (s .before .fits .linear) 7 15 255
-    ∙ clipped-code (s .before .args .linear) (rw (sum-is s) at (c .before .if1 .taken))
+    ∙ clipped-code (s .before .args .linear) _ (sum-is s) (c .before .if1 .taken)
 
 sub-segment : tie.Need-sub-segment
 sub-segment c = leading-le 32 _

@@ -1,0 +1,86 @@
+// Reads the oracle's recorded answers, makes every call again, and prints for each call how many
+// answers are the same and how many differ. data/answers.txt says how it was made, and what a line
+// of it is.
+mod laws;
+mod list;
+
+use libc::STDOUT_FILENO;
+use list::read_line;
+
+// The calls' numbers are below this one. 0 stands for a line that no call takes.
+const CALLS: usize = 5;
+
+fn main() {
+    let path = b"answers.txt";
+    let file = os::open_read(path);
+    if file < 0 {
+        os::fail(path);
+        return;
+    }
+    let mut text = [0u8; 262144];
+    let n = io::read_full(file, &mut text);
+    libc::close(file);
+    if n == 262144 {
+        io::write_all(STDOUT_FILENO, b"the list is too long\n");
+    } else {
+        replay(&text[..n]);
+    }
+}
+
+// How many answers of each call are the same, and how many differ.
+struct Tally {
+    same: [u64; CALLS],
+    differ: [u64; CALLS],
+}
+
+fn replay(text: &[u8]) {
+    let mut tally = Tally {
+        same: [0; CALLS],
+        differ: [0; CALLS],
+    };
+    let mut bytes = [0u8; 1024];
+    let mut at = 0;
+    while at < text.len() {
+        let line = read_line(text, at, &mut bytes);
+        at = line.next;
+        let count = line.count;
+        if line.is_call {
+            tally = counted(tally, &bytes[..count]);
+        }
+    }
+    report(tally);
+}
+
+fn counted(tally: Tally, bytes: &[u8]) -> Tally {
+    let mut next = tally;
+    let answer = laws::answered(bytes);
+    let call = answer.call;
+    if answer.same {
+        next.same[call] = more(next.same[call]);
+    } else {
+        next.differ[call] = more(next.differ[call]);
+    }
+    next
+}
+
+// One more, up to more than there are lines.
+fn more(n: u64) -> u64 {
+    if n < 1_000_000 { n + 1 } else { n }
+}
+
+fn report(tally: Tally) {
+    say(b"decode_ulaw", tally.same[1], tally.differ[1]);
+    say(b"encode_ulaw", tally.same[2], tally.differ[2]);
+    say(b"decode_alaw", tally.same[3], tally.differ[3]);
+    say(b"encode_alaw", tally.same[4], tally.differ[4]);
+    say(b"no call", tally.same[0], tally.differ[0]);
+}
+
+fn say(call: &[u8], same: u64, differ: u64) {
+    io::write_all(STDOUT_FILENO, call);
+    io::write_all(STDOUT_FILENO, b": ");
+    io::print_decimal(STDOUT_FILENO, same);
+    io::write_all(STDOUT_FILENO, b" same, ");
+    io::print_decimal(STDOUT_FILENO, differ);
+    io::write_all(STDOUT_FILENO, b" differ\n");
+}

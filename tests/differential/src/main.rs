@@ -1,0 +1,41 @@
+//! Compares the proved library with the oracle, call by call. Any difference, or a call of which
+//! nothing was compared, fails the run.
+//!
+//! With the word `exhaustive` it compares the whole domain of each call, for as long as that takes,
+//! and says where it is. The laws are compared whole either way.
+
+mod ffi;
+mod g711;
+mod report;
+
+use std::process::ExitCode;
+
+fn main() -> ExitCode {
+    let words: Vec<String> = std::env::args().skip(1).collect();
+    let exhaustive = match words.iter().map(String::as_str).collect::<Vec<_>>()[..] {
+        [] => false,
+        ["exhaustive"] => true,
+        _ => {
+            eprintln!("usage: differential [exhaustive]");
+            return ExitCode::from(2);
+        }
+    };
+
+    // each family of calls adds its reports
+    let reports = g711::reports(exhaustive);
+
+    for report in &reports {
+        report.summary();
+    }
+    let compared: u64 = reports.iter().map(|report| report.compared).sum();
+    let differ: u64 = reports.iter().map(|report| report.differ).sum();
+    println!("in all: {compared} compared, {differ} differ");
+    if reports.is_empty() || reports.iter().any(|report| report.compared == 0) {
+        println!("a call was not compared at all");
+        return ExitCode::FAILURE;
+    }
+    if differ > 0 {
+        return ExitCode::FAILURE;
+    }
+    ExitCode::SUCCESS
+}
