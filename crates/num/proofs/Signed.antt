@@ -1,8 +1,7 @@
--- Differences of natural numbers as signed numbers, and what the machine reads back of the signed number that it holds.
--- Assumes nothing.
-use mathlib.Core.Path.{_≡_, refl, sym, ap, _∙_, subst}
-use mathlib.Core.Bool.{Bool, true, false, not}
-use Prim.Native.Nat.{ℕ, zero, suc, _+_, _-_, _≤_, _<_}
+-- Signed numbers: a difference of two naturals, and what -1 less a number is. Assumes nothing.
+use mathlib.Core.Path.{_≡_, refl, ap, _∙_}
+use mathlib.Core.Bool.{not}
+use Prim.Native.Nat.{ℕ, zero, suc, _-_, _≤_}
 use native.Mathlib.Omega.{arith}
 use lib.Dec.{T, ltb→lt}
 use lib.IntN.{ℤ, pos, negsuc, subℕ, _-ℤ_}
@@ -17,6 +16,7 @@ pub complement : (x : ℤ) → T (ltZ x (pos 0)) → negsuc 0 -ℤ x ≡ pos (ma
 complement (pos n) t = absurd (omega (arith, ltb→lt n 0 t))
 complement (negsuc n) t = sub-ge (suc n) 1 (omega arith) ∙ ap pos (omega arith)
 
+-- a number that is not negative is its own magnitude
 pub positive : (x : ℤ) → T (not (ltZ x (pos 0))) → x ≡ pos (mag x)
 positive (pos n) t = refl
 positive (negsuc n) t = absurd t

@@ -1,6 +1,6 @@
 -- `g711::code_word` meets its contract: an `or` of parts that share no bit is their sum. Assumes nothing.
-use mathlib.Core.Path.{_≡_, refl, sym, ap, _∙_, subst}
-use mathlib.Core.Bool.{Bool, true, false}
+use mathlib.Core.Path.{_≡_, ap, _∙_, subst}
+use mathlib.Core.Bool.{true, false}
 use mathlib.Core.Logic.{⊎-elim}
 use Prim.Native.Nat.{ℕ, _+_, _*_, _%_, _^_, _<_}
 use native.Mathlib.Omega.{arith}
@@ -14,8 +14,6 @@ use mir.ValLaws.{toZ-ofZ}
 use Rattle.g711.specs.Law.{joined}
 use Rattle.g711.proofs.code_word.Statement.{statement}
 use Rattle.g711.proofs.code_word.Tie as tie
-use Rattle.g711.proofs.code_word.Reads as reads
-use Rattle.g711.proofs.code_word.Lts as lts
 
 -- the two parts, and the sign's bit above them
 word : (s f : ℕ) → s < 8 → f < 16 → bitOr ((s * 2 ^ 4) % 2 ^ 32) f ≡ 16 * s + f

@@ -1,5 +1,5 @@
 -- `num::complemented` meets its contract: -1 - x where x is negative, and x itself elsewhere, are the complement. Assumes nothing.
-use mathlib.Core.Path.{_≡_, refl, sym, ap, _∙_, subst}
+use mathlib.Core.Path.{_≡_, sym, _∙_, subst}
 use mathlib.Core.Bool.{Bool, true, false, not}
 use Prim.Native.Nat.{ℕ, _<_}
 use native.Mathlib.Omega.{arith}
@@ -12,8 +12,6 @@ use mir.ValLaws.{toZ-ofZ}
 use Rattle.num.proofs.Signed.{complement, positive}
 use Rattle.num.proofs.complemented.Statement.{statement}
 use Rattle.num.proofs.complemented.Tie as tie
-use Rattle.num.proofs.complemented.Reads as reads
-use Rattle.num.proofs.complemented.Lts as lts
 
 -- what the machine reads of a number that fits 16 bits, where it is known to be at least 0
 module _ (z : ℤ) (n : ℕ) (e : z ≡ pos n) (h : n < 32768) where

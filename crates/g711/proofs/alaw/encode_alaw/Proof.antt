@@ -1,14 +1,13 @@
 -- `g711::encode_alaw` meets its contract: the bit length of what is kept is what is left of 32 after its leading zeros, and at most 12.
 -- Assumes nothing.
-use mathlib.Core.Path.{_≡_, refl, ap, _∙_}
-use Prim.Native.Nat.{ℕ, _+_, _-_, _/_, _%_, _^_, _<_, max}
+use mathlib.Core.Path.{_≡_, ap, _∙_}
+use Prim.Native.Nat.{ℕ, _-_, _<_}
 use native.Mathlib.Omega.{arith}
-use lib.Count.{leadingZeros, leading-le}
+use lib.Count.{leading-le}
 use lib.IntN.{ℤ, pos, negsuc}
 use mir.Syntax.{w16}
 use mir.Val.{SFits}
 use borrow.Author.Needs.{needs}
-use Rattle.num.specs.Bits.{bitLength}
 use Rattle.num.proofs.Bits.{not-leading, length-le}
 use Rattle.g711.specs.Law.{A-law, kept, segment, fourBits, codeOf}
 use Rattle.g711.proofs.Kept.{shift-is, code-is}

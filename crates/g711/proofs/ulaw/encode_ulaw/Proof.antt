@@ -1,6 +1,6 @@
 -- `g711::encode_ulaw` meets its contract: the sum's bit length is what is left of 32 after its leading zeros, and 6 to 13 where
 -- nothing is clipped. Assumes nothing.
-use mathlib.Core.Path.{_≡_, refl, sym, ap, _∙_}
+use mathlib.Core.Path.{_≡_, ap, _∙_}
 use Prim.Native.Nat.{ℕ, _+_, _-_, _/_, _%_, _^_, _<_, _≤_}
 use native.Mathlib.Omega.{arith}
 use lib.Bits.{bitXor}
