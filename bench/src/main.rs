@@ -18,16 +18,17 @@ fn main() {
         timing::RUNS
     );
     println!();
-    println!("| call | ours | Rust | ours / Rust |");
-    println!("|---|---:|---:|---:|");
+    println!("| call | ours | Rust | ours / Rust | Rust behind a call |");
+    println!("|---|---:|---:|---:|---:|");
     // each family of calls adds its rows
     for row in g711::rows() {
         println!(
-            "| {} | {:.2} | {:.2} | {:.2} |",
+            "| {} | {:.2} | {:.2} | {:.2} | {:.2} |",
             row.call,
             row.ours,
             row.rust,
-            row.ours / row.rust
+            row.ours / row.rust,
+            row.rust_called
         );
     }
     println!();

@@ -3,7 +3,8 @@
 //! The oracle's single calls are marked `#[inline(always)]`; ours are true calls, into an archive.
 //! `black_box` holds the input and the result of both, so that the compiler can neither work an
 //! answer out beforehand nor drop it nor take many at once: both sides answer one input at a time.
-//! What a call costs beside an inlined body is in our figure, as it is for whoever links the archive.
+//! What a call costs beside an inlined body is in our figure, as it is for whoever links the archive;
+//! a third figure has the oracle behind a call too, which says how much of the difference that is.
 //! No input waits for the result before it, so the figure is how often a call can be made, not how
 //! long one takes from its input to its result.
 
@@ -12,14 +13,15 @@ use std::time::Instant;
 
 pub const RUNS: usize = 501;
 
-/// Nanoseconds a call, on both sides.
+/// Nanoseconds a call: ours, the oracle's inlined, and the oracle's behind a call.
 pub struct Row {
     pub call: &'static str,
     pub ours: f64,
     pub rust: f64,
+    pub rust_called: f64,
 }
 
-/// Times both sides in turn, so that what else the machine does falls on both. The best run counts:
+/// Times all sides in turn, so that what else the machine does falls on all. The best run counts:
 /// what disturbs a run only ever makes it longer.
 pub fn row<I: Copy, O>(
     call: &'static str,
@@ -32,12 +34,19 @@ pub fn row<I: Copy, O>(
         call,
         ours: f64::INFINITY,
         rust: f64::INFINITY,
+        rust_called: f64::INFINITY,
     };
     for _ in 0..RUNS {
         best.ours = best.ours.min(run(inputs, &ours));
         best.rust = best.rust.min(run(inputs, &rust));
+        best.rust_called = best.rust_called.min(run(inputs, |x| called(&rust, x)));
     }
     best
+}
+
+#[inline(never)]
+fn called<I, O>(call: &impl Fn(I) -> O, input: I) -> O {
+    call(input)
 }
 
 /// What the loop and its two `black_box` take with nothing between them.
