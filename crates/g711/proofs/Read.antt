@@ -13,5 +13,5 @@ use Rattle.num.specs.Lists.{from}
 use Rattle.num.proofs.Lists.{table}
 use Rattle.g711.specs.Law.{Law, sampleOf}
 
-pub read : (law : Law) (xs : List ℤ) → xs ≡ from 256 0 (sampleOf law) → (code : ℕ) → code < 256 → mag (getD xs code (pos 0)) < 32768 → toZ w16 (ofZ w16 (getD xs code (pos 0))) ≡ sampleOf law code
-read law xs e code h f = toZ-ofZ w16 _ (record { sfits = f }) ∙ table (sampleOf law) xs 256 e code (pos 0) h
+pub read : (law : Law) (xs : List ℤ) (code : ℕ) → code < 256 → mag (getD xs code (pos 0)) < 32768 → xs ≡ from 256 0 (sampleOf law) → toZ w16 (ofZ w16 (getD xs code (pos 0))) ≡ sampleOf law code
+read law xs code h f e = toZ-ofZ w16 _ (record { sfits = f }) ∙ table (sampleOf law) xs 256 e code (pos 0) h

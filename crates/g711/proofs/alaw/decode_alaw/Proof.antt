@@ -16,7 +16,7 @@ array-copy-out-result c = search needs
 
 returns : tie.Need-returns
 unfolding from sampleOf
-returns c = read A-law _ refl (c .before .args .encoded) (search needs) (c .result .given)
+returns c = read A-law _ (c .before .args .encoded) (search needs) (c .result .given) refl
 
 pub decode-alaw-spec : {M : Type 1} → statement M
 decode-alaw-spec = tie.close (tie.spec mul-result array-copy-out-result returns)

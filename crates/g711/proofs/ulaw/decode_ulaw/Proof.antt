@@ -16,7 +16,7 @@ array-copy-out-result c = search needs
 
 returns : tie.Need-returns
 unfolding from sampleOf
-returns c = read mu-law _ refl (c .before .args .encoded) (search needs) (c .result .given)
+returns c = read mu-law _ (c .before .args .encoded) (search needs) (c .result .given) refl
 
 pub decode-ulaw-spec : {M : Type 1} → statement M
 decode-ulaw-spec = tie.close (tie.spec mul-result array-copy-out-result returns)
