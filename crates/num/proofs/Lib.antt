@@ -1,3 +1,5 @@
 pub mod Bits
 pub mod Lists
 pub mod Signed
+pub mod Tests
+pub mod Within

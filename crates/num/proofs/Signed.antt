@@ -1,27 +1,78 @@
--- Signed numbers: a difference of two naturals, and what -1 less a number is. Assumes nothing.
-use mathlib.Core.Path.{_≡_, refl, ap, _∙_}
-use mathlib.Core.Bool.{not}
-use Prim.Native.Nat.{ℕ, zero, suc, _-_, _≤_}
+-- Signed numbers: how large a sum is, what the machine reads back of a number, and what its tests and casts say of it.
+-- A number that fits is read back as it is, so each law begins there. Assumes nothing.
+use mathlib.Core.Path.{_≡_, refl, sym, ap, ap₂, _∙_, subst}
+use mathlib.Core.Bool.{Bool, true, false}
+use Prim.Native.Nat.{ℕ, zero, suc, _+_, _-_, _^_, _≤_, _<_}
 use native.Mathlib.Omega.{arith}
-use lib.Dec.{T, ltb→lt}
-use lib.IntN.{ℤ, pos, negsuc, subℕ, _-ℤ_}
-use lib.Signed.{mag, ltZ}
-use borrow.Author.Tests.{le-ltb}
+use lib.Dec.{T, ltb}
+use lib.IntN.{ℤ, pos, negsuc, negℤ, natAbs, subℕ, _+ℤ_, _-ℤ_}
+use lib.Signed.{mag, ltZ, nonNeg}
+use mir.Syntax.{Width, w16, w32}
+use mir.Val.{bits, hbits, SFits, Fits, toZ, ofZ}
+use mir.ValLaws.{toZ-ofZ}
+use borrow.Author.Tests.{ltb-true, ltb-false, le-ltb}
+
+-- ---- sums
 
 pub sub-ge : (a b : ℕ) → b ≤ a → subℕ a b ≡ pos (a - b)
 sub-ge a b h = rw (le-ltb a b h)
 
 -- -1 less a negative number is its complement
-pub complement : (x : ℤ) → T (ltZ x (pos 0)) → negsuc 0 -ℤ x ≡ pos (mag x)
-complement (pos n) t = absurd (omega (arith, ltb→lt n 0 t))
+pub complement : (x : ℤ) → ltZ x (pos 0) ≡ true → negsuc 0 -ℤ x ≡ pos (mag x)
+complement (pos n) t = absurd (omega (arith, ltb-true n 0 t))
 complement (negsuc n) t = sub-ge (suc n) 1 (omega arith) ∙ ap pos (omega arith)
 
 -- a number that is not negative is its own magnitude
-pub positive : (x : ℤ) → T (not (ltZ x (pos 0))) → x ≡ pos (mag x)
+pub positive : (x : ℤ) → ltZ x (pos 0) ≡ false → x ≡ pos (mag x)
 positive (pos n) t = refl
-positive (negsuc n) t = absurd t
+positive (negsuc n) t = absurd (subst T t tt)
 
 -- -1 less n
 pub minus-one : (n : ℕ) → negsuc 0 -ℤ pos n ≡ negsuc n
 minus-one zero = refl
 minus-one (suc n) = ap negsuc (omega arith)
+
+mag-sub : (a b : ℕ) (is : Bool) → ltb a b ≡ is → mag (subℕ a b) ≤ a + b
+mag-sub a b true e = let h = ltb-true a b e in rw e (omega arith)
+mag-sub a b false e = rw e (omega arith)
+
+pub mag-add : (x y : ℤ) → mag (x +ℤ y) ≤ suc (mag x + mag y)
+mag-add (pos a) (pos b) = omega arith
+mag-add (pos a) (negsuc b) = let h = mag-sub a (suc b) (ltb a (suc b)) refl in omega arith
+mag-add (negsuc a) (pos b) = let h = mag-sub b (suc a) (ltb b (suc a)) refl in omega arith
+mag-add (negsuc a) (negsuc b) = omega arith
+
+pub mag-neg : (x : ℤ) → mag (negℤ x) ≤ suc (mag x)
+mag-neg (pos zero) = omega arith
+mag-neg (pos (suc n)) = omega arith
+mag-neg (negsuc n) = omega arith
+
+-- ---- what is read back
+
+-- a number of 16 bits, widened to 32
+pub widens : (x : ℤ) → SFits w16 x → SFits w32 (toZ w16 (ofZ w16 x))
+widens x f = rw (toZ-ofZ w16 x f) (record { sfits = let h = f .sfits in omega arith })
+
+pub widened : (x : ℤ) → SFits w16 x → toZ w32 (ofZ w32 (toZ w16 (ofZ w16 x))) ≡ x
+widened x f = toZ-ofZ w32 _ (widens x f) ∙ toZ-ofZ w16 x f
+
+-- what the machine found when it compared two numbers, or one with 0
+pub compared : {w : Width} {a b : ℤ} {is : Bool} → SFits w a → SFits w b → ltZ (toZ w (ofZ w a)) (toZ w (ofZ w b)) ≡ is → ltZ a b ≡ is
+compared {w} {a} {b} f g t = sym (ap₂ ltZ (toZ-ofZ w a f) (toZ-ofZ w b g)) ∙ t
+
+pub signed : {w : Width} {x : ℤ} {is : Bool} → SFits w x → ltZ (toZ w (ofZ w x)) (pos 0) ≡ is → ltZ x (pos 0) ≡ is
+signed {w} {x} f t = sym (ap (λ (z : ℤ). ltZ z (pos 0)) (toZ-ofZ w x f)) ∙ t
+
+-- a number that is known to be at least 0, cast to an unsigned one
+module _ (w : Width) (x : ℤ) (n : ℕ) (e : x ≡ pos n) (h : n < 2 ^ hbits w) where
+  pub fits-pos : SFits w x
+  fits-pos = rw e (record { sfits = h })
+
+  reads-back : toZ w (ofZ w x) ≡ pos n
+  reads-back = toZ-ofZ w x fits-pos ∙ e
+
+  pub casts : {w′ : Width} → n < 2 ^ bits w′ → T (nonNeg (toZ w (ofZ w x))) × Fits w′ (natAbs (toZ w (ofZ w x)))
+  casts k = rw reads-back (tt, record { fits = k })
+
+  pub cast-is : natAbs (toZ w (ofZ w x)) ≡ n
+  cast-is = rw reads-back

@@ -1,3 +1,4 @@
 pub mod Bits
+pub mod Clamp
 pub mod Halves
 pub mod Lists

@@ -1,7 +1,8 @@
 // The small helpers that every codec shares, each defined for all of its inputs.
 ghost use mathlib.Core.Path.{_≡_};
-ghost use Prim.Native.Nat.{max};
+ghost use Prim.Native.Nat.{_-_, min, max};
 ghost use lib.Signed.{mag};
+ghost use Rattle.num.specs.Clamp as Clamp;
 ghost use Rattle.num.specs.Halves.{fromHalves};
 
 // A negative number complemented, -1 - x, and any other as it is.
@@ -15,6 +16,32 @@ pub fn larger(a: u32, b: u32) -> u32
     ensures { λ r. ⌜ r ≡ max a b ⌝ }
 {
     if a < b { b } else { a }
+}
+
+pub fn lesser(a: usize, b: usize) -> usize
+    ensures { λ r. ⌜ r ≡ min a b ⌝ }
+{
+    if a < b { a } else { b }
+}
+
+// a less b, or 0 where b is more.
+pub fn monus(a: usize, b: usize) -> usize
+    ensures { λ r. ⌜ r ≡ a - b ⌝ }
+{
+    if a < b { 0 } else { a - b }
+}
+
+// A number below `lowest` becomes that, and one above `highest` that.
+pub fn clamp(lowest: i32, highest: i32, x: i32) -> i32
+    ensures { λ r. ⌜ r ≡ Clamp.clamp lowest highest x ⌝ }
+{
+    if x < lowest {
+        lowest
+    } else if highest < x {
+        highest
+    } else {
+        x
+    }
 }
 
 // The signed number that two bytes are, the high one first.

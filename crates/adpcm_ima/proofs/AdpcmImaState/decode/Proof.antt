@@ -1,0 +1,33 @@
+-- `adpcm_ima::AdpcmImaState::decode` meets its contract: it is the step on the wide state, with the table. Assumes nothing.
+use mathlib.Core.Path.{_≡_, sym, ap, _∙_}
+use mir.Syntax.{w16}
+use mir.Val.{SFits}
+use mir.ValLaws.{toZ-ofZ}
+use borrow.Author.Needs.{needs}
+use Rattle.adpcm_ima.specs.Step.{State, sixteen, stepped}
+use Rattle.adpcm_ima.specs.Table.{imaSteps}
+use Rattle.adpcm_ima.specs.View.{narrow}
+use Rattle.adpcm_ima.proofs.Bounds.{narrow-is}
+use Rattle.adpcm_ima.proofs.AdpcmImaState.decode.Statement.{statement}
+use Rattle.adpcm_ima.proofs.AdpcmImaState.decode.Tie as tie
+
+of-requires : tie.Need-of-requires
+of-requires c κs = search needs
+
+moved-requires : tie.Need-moved-requires
+moved-requires c κs = search needs
+
+narrowed-requires : tie.Need-narrowed-requires
+narrowed-requires c κs = search needs
+
+returns : tie.Need-returns
+unfolding imaSteps
+returns c =
+    let s = c .before .before .before .before .before .args in
+    let next = c .before .before .moved .ensures ∙ ap (λ (st : State). stepped sixteen imaSteps st (s .nibble)) (c .before .before .before .before .of .ensures) in
+    let state = c .narrowed .ensures ∙ ap narrow next ∙ narrow-is imaSteps _ (s .nibble) in
+    let f : SFits w16 (c .before .before .moved .result .predictor) = search needs in
+    (state, toZ-ofZ w16 _ f ∙ sym (ap (λ (st : State). st .predictor) (c .narrowed .ensures)))
+
+pub decode-spec : {M : Type 1} → statement M
+decode-spec = tie.close (tie.spec of-requires moved-requires narrowed-requires returns)

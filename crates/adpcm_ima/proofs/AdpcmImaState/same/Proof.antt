@@ -1,0 +1,40 @@
+-- `adpcm_ima::AdpcmImaState::same` meets its contract: two predictors are one where the machine's bits of them are. Assumes nothing.
+use mathlib.Core.Path.{_≡_, refl, sym, ap, _∙_}
+use mathlib.Core.Bool.{true, false}
+use lib.IntN.{ℤ, pos, negsuc}
+use mir.Syntax.{w16}
+use mir.Val.{SFits, toZ, ofZ}
+use mir.ValLaws.{toZ-ofZ}
+use borrow.Author.Needs.{needs}
+use borrow.Author.Tests.{eq-eqb, ne-eqb}
+use Rattle.adpcm_ima.specs.View.{sameZ}
+use Rattle.adpcm_ima.proofs.AdpcmImaState.same.Statement.{statement}
+use Rattle.adpcm_ima.proofs.AdpcmImaState.same.Tie as tie
+
+itself : (a : ℤ) → sameZ a a ≡ true
+itself (pos n) = eq-eqb n n refl
+itself (negsuc n) = eq-eqb n n refl
+
+equal : (a b : ℤ) → SFits w16 a → SFits w16 b → ofZ w16 a ≡ ofZ w16 b → sameZ a b ≡ true
+equal a b f g e = ap (sameZ a) (sym (toZ-ofZ w16 b g) ∙ ap (toZ w16) (sym e) ∙ toZ-ofZ w16 a f) ∙ itself a
+
+unequal : (a b : ℤ) → (ofZ w16 a ≡ ofZ w16 b → ⊥) → sameZ a b ≡ false
+unequal (pos a) (pos b) n = ne-eqb a b (λ e. n (ap (λ k. ofZ w16 (pos k)) e))
+unequal (pos a) (negsuc b) n = refl
+unequal (negsuc a) (pos b) n = refl
+unequal (negsuc a) (negsuc b) n = ne-eqb a b (λ e. n (ap (λ k. ofZ w16 (negsuc k)) e))
+
+returns : tie.Need-returns
+returns c =
+    let s = c .before .before .before .before .before .before .before .args in
+    let f : SFits w16 (s .self .predictor) = search needs in
+    let g : SFits w16 (s .other .predictor) = search needs in
+    rw (equal (s .self .predictor) (s .other .predictor) f g (c .before .before .if1 .taken)) refl
+
+returns-2 : tie.Need-returns-2
+returns-2 c =
+    let s = c .before .before .before .before .before .args in
+    rw (unequal (s .self .predictor) (s .other .predictor) (c .if1 .left)) refl
+
+pub same-spec : {M : Type 1} → statement M
+same-spec = tie.close (tie.spec returns returns-2)

@@ -1,0 +1,35 @@
+-- `adpcm_ima::step::Wide::moved` meets its contract: the predictor and the index are the definition's. Assumes nothing.
+use mathlib.Core.Path.{_≡_, refl}
+use Prim.Native.Nat.{ℕ}
+use lib.IntN.{ℤ, pos, negsuc}
+use mir.Syntax.{w16}
+use mir.Val.{SFits}
+use mir.ValLaws.{toZ-ofZ}
+use borrow.Author.Needs.{needs}
+use Rattle.adpcm_ima.specs.Step.{State, stepped, stepAt}
+use Rattle.adpcm_ima.proofs.step.Wide.moved.Statement.{statement}
+use Rattle.adpcm_ima.proofs.step.Wide.moved.Tie as tie
+
+lesser-requires : tie.Need-lesser-requires
+lesser-requires c κs = search needs
+
+step-requires : tie.Need-step-requires
+step-requires c κs = search needs
+
+predicted-requires : tie.Need-predicted-requires
+predicted-requires c κs = search needs
+
+held-requires : tie.Need-held-requires
+held-requires c κs = search needs
+
+returns : tie.Need-returns
+unfolding stepped stepAt
+returns c =
+    let s = c .before .before .before .before .before in
+    let f : SFits w16 (s .args .self .predictor) = search needs in
+    let g : SFits w16 (c .before .predicted .result) = search needs in
+    rw (toZ-ofZ w16 _ g, c .before .predicted .ensures, toZ-ofZ w16 _ f, c .held .ensures, c .before .before .before .step .ensures .0, c .before .before .before .before .lesser .ensures) refl
+
+pub moved-spec : {M : Type 1} → statement M
+moved-spec =
+    tie.close (tie.spec lesser-requires step-requires predicted-requires held-requires returns)

@@ -1,0 +1,57 @@
+-- `adpcm_ima::step::Wide::nibble` meets its contract: sign and magnitude are the definition's. Assumes nothing.
+use mathlib.Core.Path.{ap, ap₂, _∙_}
+use Prim.Native.Nat.{ℕ, _+_}
+use lib.IntN.{natAbs, _-ℤ_}
+use lib.ListN.{getD}
+use mir.Syntax.{w16, w32}
+use mir.Val.{SFits}
+use mir.ValLaws.{toZ-ofZ}
+use borrow.Author.Needs.{needs}
+use Rattle.adpcm_ima.specs.Step.{nibbleOf, stepAt, sign, greedy}
+use Rattle.adpcm_ima.proofs.step.Wide.nibble.Statement.{statement}
+use Rattle.adpcm_ima.proofs.step.Wide.nibble.Tie as tie
+
+lesser-requires : tie.Need-lesser-requires
+lesser-requires c κs = search needs
+
+step-requires : tie.Need-step-requires
+step-requires c κs = search needs
+
+difference-requires : tie.Need-difference-requires
+difference-requires c κs = search needs
+
+sign-requires : tie.Need-sign-requires
+sign-requires c κs = search needs
+
+absolute-requires : tie.Need-absolute-requires
+absolute-requires c κs = search needs
+
+magnitude-requires : tie.Need-magnitude-requires
+magnitude-requires c κs = search needs
+
+add-result : tie.Need-add-result
+add-result c = search needs
+
+returns : tie.Need-returns
+unfolding nibbleOf stepAt
+returns c =
+    let s = c .before .before .before .before .before .before .before in
+    let f : SFits w16 (s .args .self .predictor) = search needs in
+    let g : SFits w16 (s .args .sample) = search needs in
+    let k : SFits w32 (c .before .before .before .difference .result) = search needs in
+    let x = toZ-ofZ w32 _ k ∙ c .before .before .before .difference .ensures .0 ∙ ap₂ _-ℤ_ (toZ-ofZ w16 _ g) (toZ-ofZ w16 _ f) in
+    let step = c .before .before .before .before .before .step .ensures .0 ∙ ap (λ (i : ℕ). getD (s .args .steps .now) i 0) (c .before .before .before .before .before .before .lesser .ensures) in
+    ap₂ _+_ (c .before .before .sign .ensures .0 ∙ ap sign x) (c .magnitude .ensures .0 ∙ ap₂ greedy step (c .before .absolute .ensures ∙ ap natAbs x))
+
+pub nibble-spec : {M : Type 1} → statement M
+nibble-spec =
+    tie.close
+    (tie.spec
+    lesser-requires
+    step-requires
+    difference-requires
+    sign-requires
+    absolute-requires
+    magnitude-requires
+    add-result
+    returns)

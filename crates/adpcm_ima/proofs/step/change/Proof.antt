@@ -1,0 +1,53 @@
+-- `adpcm_ima::step::change` meets its contract: 0 - d is d negated. Assumes nothing.
+use mathlib.Core.Path.{_≡_, ap, _∙_}
+use Prim.Native.Nat.{ℕ, _≤_, _<_}
+use native.Mathlib.Omega.{arith}
+use lib.IntN.{pos, negℤ, _-ℤ_, +ℤ-idl}
+use lib.Signed.{mag}
+use mir.Syntax.{w32}
+use mir.Val.{SFits, toZ, ofZ}
+use mir.ValLaws.{toZ-ofZ, toZ-pos}
+use borrow.Author.Needs.{needs}
+use borrow.Author.Tests.{eq-eqb, ne-eqb}
+use Rattle.num.proofs.Signed.{mag-neg}
+use Rattle.adpcm_ima.proofs.step.change.Statement.{statement}
+use Rattle.adpcm_ima.proofs.step.change.Tie as tie
+
+module _ (n : ℕ) (h : n < 131072) where
+  plus : toZ w32 n ≡ pos n
+  plus = toZ-pos w32 n (omega arith)
+
+  minus : pos 0 -ℤ toZ w32 n ≡ negℤ (pos n)
+  minus = +ℤ-idl _ ∙ ap negℤ plus
+
+  small : mag (negℤ (pos n)) ≤ 131072
+  small = omega (arith, mag-neg (pos n))
+
+  fits : SFits w32 (pos 0 -ℤ toZ w32 n)
+  fits = rw minus (record { sfits = omega (arith, small) })
+
+size-requires : tie.Need-size-requires
+size-requires c κs = search needs
+
+cast-d : tie.Need-cast-d
+cast-d c = search needs
+
+sub-result : tie.Need-sub-result
+sub-result c = fits _ (c .before .size .ensures .1)
+
+returns : tie.Need-returns
+returns c =
+    let n = c .before .size .result in
+    let h = c .before .size .ensures in
+    let is = toZ-ofZ w32 _ (fits n (h .1)) ∙ minus n (h .1) in
+    (rw (eq-eqb _ _ (c .if1 .taken)) (is ∙ ap (λ (k : ℕ). negℤ (pos k)) (h .0)), rw is (small n (h .1)))
+
+returns-2 : tie.Need-returns-2
+returns-2 c =
+    let n = c .before .size .result in
+    let h = c .before .size .ensures in
+    let is = plus n (h .1) in
+    (rw (ne-eqb _ _ (c .if1 .left)) (is ∙ ap pos (h .0)), rw is (omega (arith, h .1)))
+
+pub change-spec : {M : Type 1} → statement M
+change-spec = tie.close (tie.spec size-requires cast-d sub-result returns returns-2)

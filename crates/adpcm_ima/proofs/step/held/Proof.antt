@@ -1,0 +1,76 @@
+-- `adpcm_ima::step::held` meets its contract: what it adds is one more than the move, and it takes that one away again. Assumes nothing.
+use mathlib.Core.Path.{_≡_, refl, sym, ap, _∙_}
+use mathlib.Core.Bool.{Bool, true, false}
+use Prim.Native.Nat.{ℕ, zero, suc, _+_, _-_, _*_, _/_, _%_, _<_, min}
+use native.Mathlib.Omega.{arith}
+use lib.Dec.{ltb, eqb}
+use lib.IntN.{pos, natAbs, subℕ}
+use borrow.Author.Needs.{needs}
+use borrow.Author.Tests.{eqb-true, eqb-false, ltb-true, ltb-false, lt-ltb, le-ltb}
+use Rattle.num.specs.Clamp.{clamp}
+use Rattle.num.proofs.Signed.{sub-ge}
+use Rattle.adpcm_ima.specs.Step.{bit, part, indexed}
+use Rattle.adpcm_ima.proofs.step.held.Statement.{statement}
+use Rattle.adpcm_ima.proofs.step.held.Tie as tie
+
+-- a number that is not negative, held at the last index
+top : (last n : ℕ) (is : Bool) → ltb last n ≡ is → natAbs (clamp (pos 0) (pos last) (pos n)) ≡ min n last
+top last n true e = let h = ltb-true last n e in rw (le-ltb n 0 (omega arith), e) (omega arith)
+top last n false e = let h = ltb-false last n e in rw (le-ltb n 0 (omega arith), e) (omega arith)
+
+module _ (last v : ℕ) where
+  low : bit 4 v ≡ false → v % 8 < 4
+  low e = let b = eqb-false (v / 4 % 2) 1 e in omega (arith, b)
+
+  hold : (i : ℕ) (is : Bool) → bit 4 v ≡ is → min (i + part (bit 4 v) (2 * (v % 4) + 3) - 1) last ≡ indexed last i v
+  unfolding indexed
+  hold i true e =
+      let b = eqb-true (v / 4 % 2) 1 e in
+      let n = i + (2 * (v % 8) - 6) in
+      let same : i + (2 * (v % 4) + 3) - 1 ≡ n = omega arith in
+      rw (e, le-ltb (v % 8) 4 (omega arith), same) (sym (top last n (ltb last n) refl))
+  hold zero false e = let b = low e in rw (e, lt-ltb (v % 8) 4 (omega arith)) (omega arith)
+  hold (suc i) false e =
+      let b = low e in
+      let n = suc i - 1 in
+      let same : suc i + 0 - 1 ≡ n = omega arith in
+      rw (e, lt-ltb (v % 8) 4 (omega arith), sub-ge (suc i) 1 (omega arith), same) (sym (top last n (ltb last n) refl))
+
+mul-part : tie.Need-mul-part
+mul-part c = search needs
+
+add-part : tie.Need-add-part
+add-part c = search needs
+
+part-requires : tie.Need-part-requires
+part-requires c κs = search needs
+
+cast-raised : tie.Need-cast-raised
+cast-raised c = search needs
+
+add-raised : tie.Need-add-raised
+add-raised c = search needs
+
+monus-requires : tie.Need-monus-requires
+monus-requires c κs = search needs
+
+lesser-requires : tie.Need-lesser-requires
+lesser-requires c κs = search needs
+
+returns : tie.Need-returns
+returns c =
+    let s = c .before .before .before .args in
+    c .lesser .ensures ∙ rw (c .before .monus .ensures, c .before .before .part .ensures .0) (hold 88 (s .nibble) (s .index) (bit 4 (s .nibble)) refl)
+
+pub held-spec : {M : Type 1} → statement M
+held-spec =
+    tie.close
+    (tie.spec
+    mul-part
+    add-part
+    part-requires
+    cast-raised
+    add-raised
+    monus-requires
+    lesser-requires
+    returns)

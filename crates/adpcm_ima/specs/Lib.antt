@@ -1,0 +1,5 @@
+pub mod Reach
+pub mod Reached
+pub mod Step
+pub mod Table
+pub mod View

@@ -1,0 +1,165 @@
+// One nibble of IMA ADPCM, decoded and encoded. A state goes in by value, and the next one comes back.
+mod step;
+
+pub use step::Wide;
+ghost use mathlib.Core.Path.{_≡_};
+ghost use lib.IntN.{pos};
+ghost use Rattle.adpcm_ima.specs.Step.{sixteen, stepped, emitted};
+ghost use Rattle.adpcm_ima.specs.Table.{imaSteps};
+ghost use Rattle.adpcm_ima.specs.View.{stateOf, sameState};
+
+pub const IMA_STEP_TABLE: [u16; 89] = [
+    7,
+    8,
+    9,
+    10,
+    11,
+    12,
+    13,
+    14,
+    16,
+    17,
+    19,
+    21,
+    23,
+    25,
+    28,
+    31,
+    34,
+    37,
+    41,
+    45,
+    50,
+    55,
+    60,
+    66,
+    73,
+    80,
+    88,
+    97,
+    107,
+    118,
+    130,
+    143,
+    157,
+    173,
+    190,
+    209,
+    230,
+    253,
+    279,
+    307,
+    337,
+    371,
+    408,
+    449,
+    494,
+    544,
+    598,
+    658,
+    724,
+    796,
+    876,
+    963,
+    1060,
+    1166,
+    1282,
+    1411,
+    1552,
+    1707,
+    1878,
+    2066,
+    2272,
+    2499,
+    2749,
+    3024,
+    3327,
+    3660,
+    4026,
+    4428,
+    4871,
+    5358,
+    5894,
+    6484,
+    7132,
+    7845,
+    8630,
+    9493,
+    10442,
+    11487,
+    12635,
+    13899,
+    15289,
+    16818,
+    18500,
+    20350,
+    22385,
+    24623,
+    27086,
+    29794,
+    32767,
+];
+
+pub struct AdpcmImaState {
+    pub predictor: i16,
+    pub step_index: u8,
+}
+
+pub struct Decoded {
+    pub sample: i16,
+    pub state: AdpcmImaState,
+}
+
+pub struct Encoded {
+    pub nibble: u8,
+    pub state: AdpcmImaState,
+}
+
+impl AdpcmImaState {
+    // The zero state.
+    pub fn new() -> Self
+        ensures { λ r. ⌜ (r .predictor ≡ pos 0) × (r .«step_index» ≡ 0) ⌝ }
+    {
+        Self {
+            predictor: 0,
+            step_index: 0,
+        }
+    }
+
+    // Equality, by field.
+    pub fn same(self, other: AdpcmImaState) -> bool
+        ensures { λ r. ⌜ r ≡ sameState (stateOf self) (stateOf other) ⌝ }
+    {
+        if self.predictor == other.predictor {
+            self.step_index == other.step_index
+        } else {
+            false
+        }
+    }
+
+    // Only the lowest four bits of `nibble` count.
+    pub fn decode(self, nibble: u8) -> Decoded
+        ensures { λ r. ⌜ (stateOf (r .state) ≡ stepped sixteen imaSteps (stateOf self) nibble) × (r .sample ≡ r .state .predictor) ⌝ }
+    {
+        let steps = IMA_STEP_TABLE;
+        let next = Wide::of(self).moved(&steps, nibble as u32);
+        let sample = next.predictor;
+        Decoded {
+            sample,
+            state: next.narrowed(),
+        }
+    }
+
+    pub fn encode(self, sample: i16) -> Encoded
+        ensures { λ r. ⌜ (r .nibble ≡ emitted sixteen imaSteps (stateOf self) sample) × (stateOf (r .state) ≡ stepped sixteen imaSteps (stateOf self) (r .nibble)) ⌝ }
+    {
+        let steps = IMA_STEP_TABLE;
+        let wide = Wide::of(self);
+        let nibble = wide.nibble(&steps, sample);
+        let next = wide.moved(&steps, nibble);
+        Encoded {
+            nibble: nibble as u8,
+            state: next.narrowed(),
+        }
+    }
+}
