@@ -12,6 +12,9 @@ pub record State : Type 0 where
   pub predictor : ℤ
   pub index : ℕ
 
+abbrev pub state : ℤ → ℕ → State
+state p i = record { predictor = p; index = i }
+
 -- The predictor is held in lowest..highest, and the index in 0..last.
 pub record Limits : Type 0 where
   pub lowest : ℤ

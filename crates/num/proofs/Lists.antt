@@ -1,9 +1,11 @@
--- What stands at a place of a list that is given by a rule, so that a table's rule is one equation of two lists. Assumes nothing.
-use mathlib.Core.Path.{_≡_, refl, ap, _∙_}
-use mathlib.Core.List.{List}
-use Prim.Native.Nat.{ℕ, zero, suc, _+_, _<_}
+-- What stands at a place of a list that is given by a rule, so that a table's rule is one equation of two lists;
+-- and such a list written from the front, one place at a turn: what is written, then the rest of the rule's list, is the rule's list. Assumes nothing.
+use mathlib.Core.Path.{_≡_, refl, sym, ap, _∙_}
+use mathlib.Core.List.{List, [], _∷_, _++_, append-nil, append-assoc}
+use Prim.Native.Nat.{ℕ, zero, suc, _+_, _-_, _<_}
 use native.Mathlib.Omega.{arith}
-use lib.ListN.{length, getD}
+use lib.ListN.{length, getD, set, take}
+use lib.Seq.{take-suc-set, take-all}
 use Rattle.num.specs.Lists.{from}
 
 module _ {X : Type 0} (f : ℕ → X) where
@@ -21,3 +23,28 @@ module _ {X : Type 0} (f : ℕ → X) where
   -- a table that is the rule's list has the rule's value at each place
   pub table : (xs : List X) (n : ℕ) → xs ≡ from n 0 f → (k : ℕ) (d : X) → k < n → getD xs k d ≡ f k
   table xs n e k d h = ap (λ (ys : List X). getD ys k d) e ∙ getD-from n 0 k d h ∙ ap f (omega arith)
+
+  -- k places of n are written
+  abbrev pub Upto : ℕ → List X → ℕ → Type 0
+  Upto n out k = take k out ++ from (n - k) k f ≡ from n 0 f
+
+  pub none : (n : ℕ) (out : List X) → Upto n out 0
+  none n out = let e : n - 0 ≡ n = omega arith in rw e refl
+
+  pub one-more : (n k : ℕ) (out : List X) → length out ≡ n → k < n → Upto n out k → Upto n (set out k (f k)) (suc k)
+  unfolding from
+  one-more n k out e h u =
+      let rest : n - k ≡ suc (n - suc k) = omega arith in
+      ap (λ (xs : List X). xs ++ from (n - suc k) (suc k) f) (take-suc-set out k (f k) (omega arith))
+      ∙ append-assoc (take k out) (f k ∷ []) (from (n - suc k) (suc k) f)
+      ∙ ap (λ (j : ℕ). take k out ++ from j k f) (sym rest)
+      ∙ u
+
+  pub all : (n : ℕ) (out : List X) → length out ≡ n → Upto n out n → out ≡ from n 0 f
+  unfolding from
+  all n out e u =
+      let rest : n - n ≡ 0 = omega arith in
+      sym (take-all n out (omega arith))
+      ∙ sym (append-nil (take n out))
+      ∙ ap (λ (j : ℕ). take n out ++ from j n f) (sym rest)
+      ∙ u

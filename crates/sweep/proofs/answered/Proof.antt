@@ -1,0 +1,79 @@
+-- `sweep::answered` meets its contract: the nibble and the next state are the encoder's, and each has its place in the number. Assumes nothing.
+use mathlib.Core.Path.{_≡_, sym, ap, _∙_, subst}
+use Prim.Native.Nat.{ℕ, _+_, _*_, _<_}
+use native.Mathlib.Omega.{arith}
+use lib.IntN.{ℤ, pos, natAbs, _+ℤ_}
+use mir.Syntax.{w16}
+use mir.Val.{SFits}
+use mir.ValLaws.{toZ-ofZ}
+use borrow.Author.Needs.{needs}
+use Rattle.adpcm_ima.specs.Step.{State, sixteen, stepAt, stepped, emitted}
+use Rattle.adpcm_ima.specs.View.{wideOf, narrow}
+use Rattle.adpcm_ima.proofs.Bounds.{nibble-lt, narrow-is}
+use Rattle.sweep.specs.Answers.{packed, answerOf}
+use Rattle.sweep.proofs.answered.Statement.{statement}
+use Rattle.sweep.proofs.answered.Tie as tie
+
+emits : (c : tie.After-nibble) → c .nibble .result ≡ emitted sixteen (c .before .args .steps .now) (wideOf (c .before .args .wide)) (c .before .args .x)
+emits c = c .nibble .ensures ∙ ap (emitted sixteen (c .before .args .steps .now) (wideOf (c .before .args .wide))) (toZ-ofZ w16 _ (c .before .fits .x))
+
+small : (c : tie.After-nibble) → c .nibble .result < 16
+small c =
+    let a = c .before .args in
+    subst (λ (n : ℕ). n < 16) (sym (emits c)) (nibble-lt (stepAt sixteen (a .steps .now) (wideOf (a .wide))) (a .wide .predictor) (a .x))
+
+nibble-requires : tie.Need-nibble-requires
+nibble-requires c κs = search needs
+
+moved-requires : tie.Need-moved-requires
+moved-requires c κs = search needs
+
+narrowed-requires : tie.Need-narrowed-requires
+narrowed-requires c κs = search needs
+
+cast-result : tie.Need-cast-result
+cast-result c = search needs
+
+mul-result : tie.Need-mul-result
+mul-result c = search needs
+
+add-result : tie.Need-add-result
+add-result c = record { fits = omega (arith, small (c .before .before .before), c .struct-known .given) }
+
+biased-requires : tie.Need-biased-requires
+biased-requires c κs = search needs
+
+mul-result-2 : tie.Need-mul-result-2
+mul-result-2 c = search needs
+
+add-result-2 : tie.Need-add-result-2
+add-result-2 c = record { fits = omega (arith, small (c .before .before .before .before .before), c .biased .ensures .1, c .before .before .struct-known .given) }
+
+returns : tie.Need-returns
+unfolding answerOf
+returns c =
+    let before = c .before .before .before .before .before in
+    let a = before .before .args in
+    let n = before .nibble .result in
+    let r = c .before .before .before .narrowed .result in
+    let f : SFits w16 (r .predictor) = search needs in
+    let high = c .biased .ensures .0 ∙ ap (λ (z : ℤ). natAbs (z +ℤ pos 32768)) (toZ-ofZ w16 _ f) in
+    let next = c .before .before .before .narrowed .ensures ∙ ap narrow (c .before .before .before .before .moved .ensures) ∙ narrow-is (a .steps .now) (wideOf (a .wide)) n in
+    ap (λ (b : ℕ). n + 256 * r .«step_index» + 65536 * b) high
+    ∙ ap (packed n) next
+    ∙ ap (λ (v : ℕ). packed v (stepped sixteen (a .steps .now) (wideOf (a .wide)) v)) (emits before)
+
+pub answered-spec : {M : Type 1} → statement M
+answered-spec =
+    tie.close
+    (tie.spec
+    nibble-requires
+    moved-requires
+    narrowed-requires
+    cast-result
+    mul-result
+    add-result
+    biased-requires
+    mul-result-2
+    add-result-2
+    returns)

@@ -1,0 +1,103 @@
+-- `sweep::sweep_encode` meets its contract: a turn writes the next answer, so what is written and then the rest of the answers is all of them.
+-- Assumes nothing.
+use mathlib.Core.Path.{_≡_, refl, ap, _∙_, subst}
+use mathlib.Core.List.{List}
+use Prim.Native.Nat.{ℕ, suc, _+_, _-_, _<_, _≤_}
+use native.Mathlib.Omega.{arith}
+use lib.IntN.{ℤ, subℕ}
+use lib.ListN.{length, set, length-set}
+use mir.Syntax.{w16}
+use mir.Val.{SFits}
+use mir.ValLaws.{toZ-ofZ}
+use borrow.Author.Needs.{needs}
+use borrow.Author.Tests.{eq-eqb, ne-eqb}
+use Rattle.num.proofs.Lists.{Upto, none, one-more, all}
+use Rattle.adpcm_ima.specs.Step.{State, state}
+use Rattle.adpcm_ima.specs.Table.{imaSteps}
+use Rattle.adpcm_ima.specs.View.{wideOf}
+use Rattle.sweep.specs.Answers.{answerOf, answersOf}
+use Rattle.sweep.proofs.sweep_encode.Statement.{statement}
+use Rattle.sweep.proofs.sweep_encode.Tie as tie
+
+abbrev rule : State → ℕ → ℕ
+rule st k = answerOf imaSteps st (subℕ k 32768)
+
+abbrev Inv-loop : tie.InvT-loop
+Inv-loop predictor step-index answers₀ steps wide k₀ answers k =
+    Upto (rule (wideOf wide)) 65536 answers k × (length answers ≡ 65536) × (k ≤ 65536)
+
+abbrev μ-loop : tie.MeasureT-loop
+μ-loop predictor step-index answers₀ steps wide k₀ answers k = 65536 - k
+
+returns : tie.Need-returns Inv-loop μ-loop
+returns c = simp (ne-eqb _ _ (c .if1 .taken)) (refl, refl)
+
+of-requires : tie.Need-of-requires Inv-loop μ-loop
+of-requires c κs = search needs
+
+loop-holds : tie.Need-loop-holds Inv-loop μ-loop
+loop-holds c = (none (rule (wideOf (c .of .result))) 65536 (c .before .before .before .args .answers .now), c .before .if1 .left, omega arith)
+
+sample-requires : tie.Need-sample-requires Inv-loop μ-loop
+sample-requires c κs = search needs
+
+answered-requires : tie.Need-answered-requires Inv-loop μ-loop
+answered-requires c κs = search needs
+
+mul-answers : tie.Need-mul-answers Inv-loop μ-loop
+mul-answers c = search needs
+
+slice-write-answers : tie.Need-slice-write-answers Inv-loop μ-loop
+slice-write-answers c = search needs
+
+add-k : tie.Need-add-k Inv-loop μ-loop
+add-k c = search needs
+
+loop-less : tie.Need-loop-less Inv-loop μ-loop
+loop-less c = omega arith
+
+loop-again : tie.Need-loop-again Inv-loop μ-loop
+unfolding imaSteps
+loop-again c =
+    let at = c .before .before .before .before in
+    let w = wideOf (at .before .of .result) in
+    let k = at .loop .k in
+    let inv = at .loop .inv in
+    let g : SFits w16 (c .before .sample .result) = search needs in
+    let is : c .answered .result ≡ rule w k = c .answered .ensures ∙ ap (answerOf imaSteps w) (toZ-ofZ w16 _ g ∙ c .before .sample .ensures) in
+    let next : suc k ≡ k + 1 = omega arith in
+    let turn = one-more (rule w) 65536 k (at .loop .answers) (inv .1) (omega arith) (inv .0) in
+    (rw is (subst (Upto (rule w) 65536 (set (at .loop .answers) k (rule w k))) next turn), length-set (at .loop .answers) k (c .answered .result) ∙ inv .1, omega arith)
+
+same-length : tie.Need-same-length Inv-loop μ-loop
+same-length c = search needs
+
+returns-2 : tie.Need-returns-2 Inv-loop μ-loop
+returns-2 c =
+    let at = c .before in
+    let s = at .before .before .before .before in
+    let inv = at .loop .inv in
+    let end : at .loop .k ≡ 65536 = omega arith in
+    let w = wideOf (at .before .of .result) in
+    let done = all (rule w) 65536 (at .loop .answers) (inv .1) (subst (Upto (rule w) 65536 (at .loop .answers)) end (inv .0)) in
+    let from-state = at .before .of .ensures ∙ ap (λ (p : ℤ). state p (s .args .step-index)) (toZ-ofZ w16 _ (s .fits .predictor)) in
+    simp (eq-eqb _ _ (at .before .before .if1 .left)) (refl, done ∙ ap answersOf from-state)
+
+pub sweep-encode-spec : {M : Type 1} → statement M
+sweep-encode-spec =
+    tie.close
+    (tie.spec
+    Inv-loop
+    μ-loop
+    returns
+    of-requires
+    loop-holds
+    sample-requires
+    answered-requires
+    mul-answers
+    slice-write-answers
+    add-k
+    loop-less
+    loop-again
+    same-length
+    returns-2)
