@@ -1,5 +1,8 @@
 // The static library: the C interface, each function with its whole contract.
+use adpcm_ima::AdpcmImaState;
 ghost use mathlib.Core.Path.{_≡_};
+ghost use Rattle.adpcm_ima.specs.Step.{state, sixteen, stepped, emitted};
+ghost use Rattle.adpcm_ima.specs.Table.{imaSteps};
 ghost use Rattle.g711.specs.Law.{mu-law, A-law, sampleOf, codeOf};
 
 #[no_mangle]
@@ -28,4 +31,35 @@ pub extern "C" fn spr_encode_alaw(linear: i16) -> u8
     ensures { λ r. ⌜ r ≡ codeOf A-law linear ⌝ }
 {
     g711::encode_alaw(linear)
+}
+
+// The state is read and written through the two numbers.
+#[no_mangle]
+pub extern "C" fn spr_decode_adpcm_ima(nibble: u8, predictor: &mut i16, step_index: &mut u8) -> i16
+    ensures { λ r. ⌜ (r ≡ now (predictor .exit)) × (state (now (predictor .exit)) (now («step_index» .exit)) ≡ stepped sixteen imaSteps (state (now (predictor .entry)) (now («step_index» .entry))) nibble) ⌝ }
+{
+    let before = AdpcmImaState {
+        predictor: *predictor,
+        step_index: *step_index,
+    };
+    let decoded = before.decode(nibble);
+    let next = decoded.state.predictor;
+    *predictor = next;
+    *step_index = decoded.state.step_index;
+    decoded.sample
+}
+
+#[no_mangle]
+pub extern "C" fn spr_encode_adpcm_ima(sample: i16, predictor: &mut i16, step_index: &mut u8) -> u8
+    ensures { λ r. ⌜ (r ≡ emitted sixteen imaSteps (state (now (predictor .entry)) (now («step_index» .entry))) sample) × (state (now (predictor .exit)) (now («step_index» .exit)) ≡ stepped sixteen imaSteps (state (now (predictor .entry)) (now («step_index» .entry))) r) ⌝ }
+{
+    let before = AdpcmImaState {
+        predictor: *predictor,
+        step_index: *step_index,
+    };
+    let encoded = before.encode(sample);
+    let next = encoded.state.predictor;
+    *predictor = next;
+    *step_index = encoded.state.step_index;
+    encoded.nibble
 }
