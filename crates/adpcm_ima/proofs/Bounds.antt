@@ -1,30 +1,17 @@
 -- How large what a step hands back is. Assumes nothing.
 use mathlib.Core.Path.{_≡_, refl}
-use mathlib.Core.Bool.{Bool, true, false}
 use mathlib.Core.List.{List}
-use Prim.Native.Nat.{ℕ, _+_, _/_, _%_, _≤_, _<_}
+use Prim.Native.Nat.{ℕ, _%_, _≤_, _<_}
 use native.Mathlib.Omega.{arith}
 use lib.IntN.{ℤ, pos, negsuc, natAbs, _+ℤ_, _-ℤ_}
 use Rattle.num.proofs.Within.{clamp-le}
-use Rattle.adpcm_ima.specs.Step.{State, sixteen, lowered, part, takes, left, sign, greedy, nibbleOf, move, indexed, stepped}
+use Rattle.adpcm_ima.specs.Step.{State, sixteen, lowered, sign, nibbleOf, move, indexed, stepped}
 use Rattle.adpcm_ima.specs.View.{narrow}
-
-part-le : (is : Bool) (x : ℕ) → part is x ≤ x
-part-le true x = omega arith
-part-le false x = omega arith
+use Rattle.adpcm_ima.proofs.Parts.{greedy-lt}
 
 sign-le : (x : ℤ) → sign x ≤ 8
 sign-le (pos n) = omega arith
 sign-le (negsuc n) = omega arith
-
-pub greedy-lt : (s r : ℕ) → greedy s r < 8
-unfolding greedy
-greedy-lt s r =
-    let r₂ = left r s in
-    let a = part-le (takes r s) 4 in
-    let b = part-le (takes r₂ (s / 2)) 2 in
-    let c = part-le (takes (left r₂ (s / 2)) (s / 4)) 1 in
-    omega arith
 
 -- a nibble has four bits
 pub nibble-lt : (s : ℕ) (p x : ℤ) → nibbleOf s p x < 16

@@ -1,2 +1,5 @@
 pub mod Bounds
 pub mod Counted
+pub mod Parts
+pub mod Reach
+pub mod Rising

@@ -1,6 +1,9 @@
 -- The step table of the IMA practice. Assumes nothing.
+use mathlib.Core.Bool.{Bool, false, _&&_}
 use mathlib.Core.List.{List, [], _∷_}
 use Prim.Native.Nat.{ℕ}
+use lib.Dec.{ltb, eqb}
+use lib.ListN.{length}
 
 -- `IMA_STEP_TABLE`: 89 entries, strictly rising from 7 to 32767.
 unfoldable pub imaSteps : List ℕ
@@ -14,3 +17,13 @@ imaSteps =
     2272 ∷ 2499 ∷ 2749 ∷ 3024 ∷ 3327 ∷ 3660 ∷ 4026 ∷ 4428 ∷ 4871 ∷ 5358 ∷
     5894 ∷ 6484 ∷ 7132 ∷ 7845 ∷ 8630 ∷ 9493 ∷ 10442 ∷ 11487 ∷ 12635 ∷ 13899 ∷
     15289 ∷ 16818 ∷ 18500 ∷ 20350 ∷ 22385 ∷ 24623 ∷ 27086 ∷ 29794 ∷ 32767 ∷ []
+
+-- The numbers behind x rise strictly from it to the last.
+abbrev pub risesTo : ℕ → ℕ → List ℕ → Bool
+risesTo x last [] = eqb x last
+risesTo x last (y ∷ ys) = ltb x y && risesTo y last ys
+
+-- The test: a list has n entries, and rises strictly from the first to the last.
+abbrev pub rises : ℕ → ℕ → ℕ → List ℕ → Bool
+rises n first last [] = false
+rises n first last (x ∷ xs) = eqb (length (x ∷ xs)) n && eqb x first && risesTo x last xs

@@ -1,5 +1,6 @@
 pub mod Bits
 pub mod Lists
+pub mod Shift
 pub mod Signed
 pub mod Tests
 pub mod Within
