@@ -1,26 +1,19 @@
 // The calls of the two laws.
+use crate::answer::no_call;
+use crate::answer::Answer;
 use g711::decode_alaw;
 use g711::decode_ulaw;
 use g711::encode_alaw;
 use g711::encode_ulaw;
 use num::from_halves;
+ghost use mathlib.Core.Path.{_≡_};
 ghost use Prim.Native.Nat.{_<_};
-
-pub(crate) struct Answer {
-    // 0 where no call takes the line.
-    pub(crate) call: usize,
-    pub(crate) same: bool,
-}
+ghost use lib.ListN.{length};
 
 pub(crate) fn answered(bytes: &[u8]) -> Answer
-    ensures { λ r. ⌜ r .call < 5 ⌝ }
+    requires { ⌜ length (now bytes) ≡ 4 ⌝ }
+    ensures { λ r. ⌜ r .call < 7 ⌝ }
 {
-    if bytes.len() != 4 {
-        return Answer {
-            call: 0,
-            same: false,
-        };
-    }
     let a = bytes[1];
     let b = bytes[2];
     let c = bytes[3];
@@ -42,9 +35,6 @@ pub(crate) fn answered(bytes: &[u8]) -> Answer
             call: 4,
             same: encode_alaw(from_halves(a, b)) == c,
         },
-        _ => Answer {
-            call: 0,
-            same: false,
-        },
+        _ => no_call(),
     }
 }

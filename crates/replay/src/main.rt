@@ -1,14 +1,19 @@
 // Reads the oracle's recorded answers, makes every call again, and prints for each call how many
 // answers are the same and how many differ. data/answers.txt says how it was made, and what a line
 // of it is.
+mod answer;
 mod laws;
 mod list;
+mod nibbles;
 
+use answer::no_call;
+use answer::Answer;
 use libc::STDOUT_FILENO;
 use list::read_line;
+ghost use Prim.Native.Nat.{_<_};
 
 // The calls' numbers are below this one. 0 stands for a line that no call takes.
-const CALLS: usize = 5;
+const CALLS: usize = 7;
 
 fn main() {
     let path = b"answers.txt";
@@ -53,7 +58,7 @@ fn replay(text: &[u8]) {
 
 fn counted(tally: Tally, bytes: &[u8]) -> Tally {
     let mut next = tally;
-    let answer = laws::answered(bytes);
+    let answer = answered(bytes);
     let call = answer.call;
     if answer.same {
         next.same[call] = more(next.same[call]);
@@ -61,6 +66,17 @@ fn counted(tally: Tally, bytes: &[u8]) -> Tally {
         next.differ[call] = more(next.differ[call]);
     }
     next
+}
+
+// A line of four bytes is a call of a law, one of ten a nibble.
+fn answered(bytes: &[u8]) -> Answer
+    ensures { λ r. ⌜ r .call < 7 ⌝ }
+{
+    match bytes.len() {
+        4 => laws::answered(bytes),
+        10 => nibbles::answered(bytes),
+        _ => no_call(),
+    }
 }
 
 // One more, up to more than there are lines.
@@ -73,6 +89,8 @@ fn report(tally: Tally) {
     say(b"encode_ulaw", tally.same[2], tally.differ[2]);
     say(b"decode_alaw", tally.same[3], tally.differ[3]);
     say(b"encode_alaw", tally.same[4], tally.differ[4]);
+    say(b"decode_adpcm_ima", tally.same[5], tally.differ[5]);
+    say(b"encode_adpcm_ima", tally.same[6], tally.differ[6]);
     say(b"no call", tally.same[0], tally.differ[0]);
 }
 

@@ -1,0 +1,68 @@
+// The calls on one nibble.
+use crate::answer::no_call;
+use crate::answer::Answer;
+use adpcm_ima::AdpcmImaState;
+use num::from_halves;
+ghost use mathlib.Core.Path.{_≡_};
+ghost use Prim.Native.Nat.{_<_};
+ghost use lib.ListN.{length};
+
+pub(crate) fn answered(bytes: &[u8]) -> Answer
+    requires { ⌜ length (now bytes) ≡ 10 ⌝ }
+    ensures { λ r. ⌜ r .call < 7 ⌝ }
+{
+    let call = bytes[0];
+    match call {
+        5 => Answer {
+            call: 5,
+            same: decoded(bytes),
+        },
+        6 => Answer {
+            call: 6,
+            same: encoded(bytes),
+        },
+        _ => no_call(),
+    }
+}
+
+fn decoded(bytes: &[u8]) -> bool
+    requires { ⌜ length (now bytes) ≡ 10 ⌝ }
+{
+    let nibble = bytes[1];
+    let before = AdpcmImaState {
+        predictor: from_halves(bytes[2], bytes[3]),
+        step_index: bytes[4],
+    };
+    let sample = from_halves(bytes[5], bytes[6]);
+    let after = AdpcmImaState {
+        predictor: from_halves(bytes[7], bytes[8]),
+        step_index: bytes[9],
+    };
+    let d = before.decode(nibble);
+    if d.sample == sample {
+        d.state.same(after)
+    } else {
+        false
+    }
+}
+
+fn encoded(bytes: &[u8]) -> bool
+    requires { ⌜ length (now bytes) ≡ 10 ⌝ }
+{
+    let sample = from_halves(bytes[1], bytes[2]);
+    let before = AdpcmImaState {
+        predictor: from_halves(bytes[3], bytes[4]),
+        step_index: bytes[5],
+    };
+    let nibble = bytes[6];
+    let after = AdpcmImaState {
+        predictor: from_halves(bytes[7], bytes[8]),
+        step_index: bytes[9],
+    };
+    let e = before.encode(sample);
+    if e.nibble == nibble {
+        e.state.same(after)
+    } else {
+        false
+    }
+}
