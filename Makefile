@@ -22,6 +22,8 @@ test:
 bench:
 	@tools/bench
 
+# It may be stopped at any moment, and goes on from there.
 exhaustive:
 	@tools/archive
+	@tools/archive sweep
 	@$(RUST) tests/differential/Cargo.toml -- exhaustive
