@@ -6,10 +6,12 @@ mod c {
         pub fn spr_encode_ulaw(linear: i16) -> u8;
         pub fn spr_decode_alaw(encoded: u8) -> i16;
         pub fn spr_encode_alaw(linear: i16) -> u8;
+        pub fn spr_decode_adpcm_ima(nibble: u8, predictor: *mut i16, step_index: *mut u8) -> i16;
+        pub fn spr_encode_adpcm_ima(sample: i16, predictor: *mut i16, step_index: *mut u8) -> u8;
     }
 }
 
-// SAFETY of the four: numbers in, a number out, and the proved functions ask nothing of their input.
+// SAFETY of the laws: numbers in, a number out, and the proved functions ask nothing of their input.
 
 #[inline(always)]
 pub fn decode_ulaw(encoded: u8) -> i16 {
@@ -29,4 +31,17 @@ pub fn decode_alaw(encoded: u8) -> i16 {
 #[inline(always)]
 pub fn encode_alaw(linear: i16) -> u8 {
     unsafe { c::spr_encode_alaw(linear) }
+}
+
+// SAFETY of IMA ADPCM: the state is two numbers of the caller's, borrowed for the call by nobody else;
+// the proved functions read and write these, and ask nothing of what they are.
+
+#[inline(always)]
+pub fn decode_adpcm_ima(nibble: u8, predictor: &mut i16, step_index: &mut u8) -> i16 {
+    unsafe { c::spr_decode_adpcm_ima(nibble, predictor, step_index) }
+}
+
+#[inline(always)]
+pub fn encode_adpcm_ima(sample: i16, predictor: &mut i16, step_index: &mut u8) -> u8 {
+    unsafe { c::spr_encode_adpcm_ima(sample, predictor, step_index) }
 }

@@ -4,10 +4,17 @@
 //! With the word `exhaustive` it compares the whole domain of each call, for as long as that takes,
 //! and says where it is. The laws are compared whole either way.
 
+mod adpcm_ima;
 mod ffi;
 mod g711;
+mod nibble;
+mod packed;
+mod parallel;
+mod places;
 mod report;
+mod sweep;
 
+use report::Report;
 use std::process::ExitCode;
 
 fn main() -> ExitCode {
@@ -22,15 +29,19 @@ fn main() -> ExitCode {
     };
 
     // each family of calls adds its reports
-    let reports = g711::reports(exhaustive);
+    let mut reports = g711::reports(exhaustive);
+    reports.extend(adpcm_ima::reports(exhaustive));
+    verdict(&reports)
+}
 
-    for report in &reports {
+fn verdict(reports: &[Report]) -> ExitCode {
+    for report in reports {
         report.summary();
     }
-    let compared: u64 = reports.iter().map(|report| report.compared).sum();
-    let differ: u64 = reports.iter().map(|report| report.differ).sum();
+    let compared: u64 = reports.iter().map(Report::compared).sum();
+    let differ: u64 = reports.iter().map(Report::differ).sum();
     println!("in all: {compared} compared, {differ} differ");
-    if reports.is_empty() || reports.iter().any(|report| report.compared == 0) {
+    if reports.is_empty() || reports.iter().any(|report| report.compared() == 0) {
         println!("a call was not compared at all");
         return ExitCode::FAILURE;
     }

@@ -1,15 +1,19 @@
-//! What was compared of one call, and how much of it differed.
+//! What was compared of one call, and how much of it differed. Threads may share a report.
 
 use std::fmt::Debug;
+use std::sync::atomic::{AtomicU64, Ordering::Relaxed};
+
+/// So many differences of a call are printed. All are counted.
+const PRINTED: u64 = 10;
 
 pub struct Report {
     name: &'static str,
-    pub compared: u64,
-    pub differ: u64,
+    compared: AtomicU64,
+    differ: AtomicU64,
+    printed: AtomicU64,
 }
 
-/// Calls both sides on every input, and prints each difference. With `progress` it first says which
-/// call is next.
+/// Calls both sides on every input, in a report of its own.
 pub fn compare<I: Copy + Debug, O: PartialEq + Debug>(
     progress: bool,
     name: &'static str,
@@ -17,36 +21,82 @@ pub fn compare<I: Copy + Debug, O: PartialEq + Debug>(
     ours: impl Fn(I) -> O,
     oracle: impl Fn(I) -> O,
 ) -> Report {
-    if progress {
-        println!("{name}: comparing ..");
-    }
-    let mut report = Report {
-        name,
-        compared: 0,
-        differ: 0,
-    };
-    for input in inputs {
-        report.case(input, ours(input), oracle(input));
-    }
+    let report = Report::start(progress, name);
+    report.compare(inputs, ours, oracle);
     report
 }
 
 impl Report {
-    fn case<I: Debug, O: PartialEq + Debug>(&mut self, input: I, ours: O, oracle: O) {
-        self.compared += 1;
-        if ours != oracle {
-            self.differ += 1;
-            println!(
-                "{} of {input:?}: ours {ours:?}, the oracle's {oracle:?}",
-                self.name
-            );
+    /// With `progress` it says which call is next.
+    pub fn start(progress: bool, name: &'static str) -> Report {
+        if progress {
+            println!("{name}: comparing ..");
         }
+        Report::resume(name, 0, 0)
+    }
+
+    /// Goes on from what an earlier run has compared.
+    pub fn resume(name: &'static str, compared: u64, differ: u64) -> Report {
+        Report {
+            name,
+            compared: AtomicU64::new(compared),
+            differ: AtomicU64::new(differ),
+            printed: AtomicU64::new(0),
+        }
+    }
+
+    /// Calls both sides on every input.
+    pub fn compare<I: Copy + Debug, O: PartialEq + Debug>(
+        &self,
+        inputs: impl Iterator<Item = I>,
+        ours: impl Fn(I) -> O,
+        oracle: impl Fn(I) -> O,
+    ) {
+        let (mut compared, mut differ) = (0, 0);
+        for input in inputs {
+            compared += 1;
+            let (ours, oracle) = (ours(input), oracle(input));
+            if ours != oracle {
+                differ += 1;
+                self.print(input, ours, oracle);
+            }
+        }
+        self.count(compared, differ);
+    }
+
+    pub fn count(&self, compared: u64, differ: u64) {
+        self.compared.fetch_add(compared, Relaxed);
+        self.differ.fetch_add(differ, Relaxed);
+    }
+
+    /// Prints a difference, if it is among the first.
+    #[cold]
+    pub fn print(&self, input: impl Debug, ours: impl Debug, oracle: impl Debug) {
+        // a look first, for threads that all add to one number hold each other up
+        let enough = |printed| printed >= PRINTED;
+        if enough(self.printed.load(Relaxed)) || enough(self.printed.fetch_add(1, Relaxed)) {
+            return;
+        }
+        println!(
+            "{} of {input:?}: ours {ours:?}, the oracle's {oracle:?}",
+            self.name
+        );
+    }
+
+    pub fn compared(&self) -> u64 {
+        self.compared.load(Relaxed)
+    }
+
+    pub fn differ(&self) -> u64 {
+        self.differ.load(Relaxed)
     }
 
     pub fn summary(&self) {
         println!(
-            "{:<14}{:>8} compared, {} differ",
-            self.name, self.compared, self.differ
+            "{:<18}{:>13} compared, {} differ",
+            self.name,
+            self.compared(),
+            self.differ()
         );
     }
 }

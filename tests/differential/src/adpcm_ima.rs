@@ -1,0 +1,48 @@
+//! One nibble of IMA ADPCM, from every state: all 65,536 predictors with all 256 indices.
+//!
+//! The decoder's whole domain, 2^32 inputs, is compared in every run. The encoder's, 2^40, is for the
+//! exhaustive run; here it is asked about the samples at which an answer can go wrong by one, from
+//! every state, and about all samples from some states.
+
+use crate::nibble::{oracle, ours};
+use crate::parallel::each;
+use crate::places::Places;
+use crate::report::Report;
+use crate::sweep;
+
+pub fn reports(progress: bool) -> Vec<Report> {
+    vec![decode(progress), encode(progress), sweep::some(progress)]
+}
+
+fn decode(progress: bool) -> Report {
+    let report = Report::start(progress, "decode_adpcm_ima");
+    each(0..=u8::MAX, |index| {
+        for predictor in i16::MIN..=i16::MAX {
+            let inputs = (0..=u8::MAX).map(|byte| (byte, predictor, index));
+            report.compare(inputs, ours::decode, oracle::decode);
+        }
+    });
+    report
+}
+
+fn encode(progress: bool) -> Report {
+    let report = Report::start(progress, "encode_adpcm_ima");
+    each(0..=u8::MAX, |index| {
+        let places = Places::of(index);
+        for predictor in i16::MIN..=i16::MAX {
+            let samples = places.samples(predictor);
+            let inputs = samples.map(|sample| (sample, predictor, index));
+            report.compare(inputs, ours::encode, oracle::encode);
+            // a check of the samples themselves, from some states
+            if number(predictor, index).is_multiple_of(4099) {
+                places.check(predictor);
+            }
+        }
+    });
+    report
+}
+
+/// Each state has a number below 2^24.
+fn number(predictor: i16, index: u8) -> u32 {
+    u32::from(index) << 16 | u32::from(predictor as u16)
+}
