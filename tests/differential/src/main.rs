@@ -2,15 +2,19 @@
 //! nothing was compared, fails the run.
 //!
 //! With the word `exhaustive` it compares the whole domain of each call, for as long as that takes,
-//! and says where it is. The laws are compared whole either way.
+//! and says where it is. It can be stopped at any moment, and goes on from there when it is run again.
+//! A number after the word has it do no more than so many chunks of the long part, to try it.
 
 mod adpcm_ima;
+mod exhaustive;
 mod ffi;
 mod g711;
+mod ledger;
 mod nibble;
 mod packed;
 mod parallel;
 mod places;
+mod progress;
 mod report;
 mod sweep;
 
@@ -19,18 +23,21 @@ use std::process::ExitCode;
 
 fn main() -> ExitCode {
     let words: Vec<String> = std::env::args().skip(1).collect();
-    let exhaustive = match words.iter().map(String::as_str).collect::<Vec<_>>()[..] {
-        [] => false,
-        ["exhaustive"] => true,
-        _ => {
-            eprintln!("usage: differential [exhaustive]");
-            return ExitCode::from(2);
-        }
+    let chunks = match words.iter().map(String::as_str).collect::<Vec<_>>()[..] {
+        [] => Ok(None),
+        ["exhaustive"] => Ok(Some(usize::MAX)),
+        ["exhaustive", chunks] => chunks.parse().map(Some).map_err(|_| ()),
+        _ => Err(()),
+    };
+    let Ok(chunks) = chunks else {
+        eprintln!("usage: differential [exhaustive [CHUNKS]] (CHUNKS: do no more of them)");
+        return ExitCode::from(2);
     };
 
     // each family of calls adds its reports
-    let mut reports = g711::reports(exhaustive);
-    reports.extend(adpcm_ima::reports(exhaustive));
+    let mut reports = g711::reports(chunks.is_some());
+    reports.extend(adpcm_ima::reports(chunks.is_some()));
+    reports.extend(chunks.map(exhaustive::encode));
     verdict(&reports)
 }
 
