@@ -4,6 +4,7 @@
 //!
 //! A family of calls has one function here, which `main` calls; a call has one number, for good.
 
+use audio_codec_algorithms::{decode_adpcm_ima, encode_adpcm_ima, AdpcmImaState};
 use audio_codec_algorithms::{decode_alaw, decode_ulaw, encode_alaw, encode_ulaw};
 use std::collections::BTreeSet;
 
@@ -17,6 +18,7 @@ const HEAD: &str = "\
 fn main() {
     println!("{HEAD}");
     g711();
+    adpcm_ima();
 }
 
 /// The two laws: all codes, and the samples where the code changes.
@@ -37,18 +39,107 @@ fn decoder(call: u8, decode: fn(u8) -> i16) {
     }
 }
 
-/// The ends, some samples about zero, and both sides of each place where the oracle's code changes;
-/// between two such places it stays the same.
+/// The ends, some samples about zero, and the samples where the code changes.
 fn encoder(call: u8, encode: fn(i16) -> u8) {
-    let mut samples = BTreeSet::from([i16::MIN, -4, -1, 0, 1, 4, i16::MAX]);
+    let mut samples = changes(encode);
+    samples.extend([i16::MIN, -4, -1, 0, 1, 4, i16::MAX]);
+    for sample in samples {
+        line(call, &sample.to_be_bytes(), &[encode(sample)]);
+    }
+}
+
+/// Both sides of each place where the oracle's code changes; between two such places it stays the same.
+fn changes(encode: impl Fn(i16) -> u8) -> BTreeSet<i16> {
+    let mut samples = BTreeSet::new();
     for sample in i16::MIN + 1..=i16::MAX {
         if encode(sample) != encode(sample - 1) {
             samples.extend([sample - 1, sample]);
         }
     }
-    for sample in samples {
-        line(call, &sample.to_be_bytes(), &[encode(sample)]);
+    samples
+}
+
+/// One nibble of IMA ADPCM. A state is a predictor and an index.
+fn adpcm_ima() {
+    title("05 decode_adpcm_ima: nibble, predictor, index, sample, next predictor, next index");
+    title("some that were known beforehand");
+    assert_eq!(decode(7, (0, 0)), (11, (11, 8)));
+    assert_eq!(decode(15, (0, 0)), (-11, (-11, 8)));
+    assert_eq!(decode(8, (0, 0)), (0, (0, 0)));
+    assert_eq!(decode(0, (0, 255)), (4095, (4095, 87)));
+    assert_eq!(decode(7, (0, 88)), (32767, (32767, 88)));
+    title("every nibble at every index, and at some indices above the table");
+    for index in (0..=88).chain([89, 127, 200, 255]) {
+        nibbles(index);
     }
+
+    title("06 encode_adpcm_ima: sample, predictor, index, nibble, next predictor, next index");
+    title("some that were known beforehand");
+    assert_eq!(encode(0, (0, 0)), (0, (0, 0)));
+    assert_eq!(encode(-1, (0, 0)), (9, (-1, 0)));
+    assert_eq!(encode(32767, (0, 0)), (7, (11, 8)));
+    assert_eq!(encode(32767, (32758, 0)), (5, (32766, 4)));
+    title("the ends, and both sides of each sample where the nibble changes");
+    for index in [0, 1, 8, 44, 87, 88, 255] {
+        samples((0, index));
+    }
+    for index in [8, 88] {
+        samples((i16::MIN, index));
+        samples((i16::MAX, index));
+    }
+}
+
+/// From the limits, where half of the nibbles clip, and from between. The upper bits of the byte, which
+/// mean nothing, take all values.
+fn nibbles(index: u8) {
+    let predictors = [0, i16::MAX, -12345, i16::MIN, 32000];
+    for nibble in 0..16 {
+        let turn = usize::from(index) + usize::from(nibble);
+        let predictor = predictors[turn % predictors.len()];
+        decode(index << 4 | nibble, (predictor, index));
+    }
+}
+
+fn samples(state: (i16, u8)) {
+    let mut samples = changes(|sample| encode_adpcm_ima(sample, &mut of(state)));
+    samples.extend([i16::MIN, i16::MAX]);
+    for sample in samples {
+        encode(sample, state);
+    }
+}
+
+/// Prints the line of a nibble.
+fn decode(nibble: u8, state: (i16, u8)) -> (i16, (i16, u8)) {
+    let mut next = of(state);
+    let sample = decode_adpcm_ima(nibble, &mut next);
+    let next = (next.predictor, next.step_index);
+    let input = [&[nibble], &bytes(state)[..]].concat();
+    let answer = [&sample.to_be_bytes(), &bytes(next)[..]].concat();
+    line(0x05, &input, &answer);
+    (sample, next)
+}
+
+/// Prints the line of a sample.
+fn encode(sample: i16, state: (i16, u8)) -> (u8, (i16, u8)) {
+    let mut next = of(state);
+    let nibble = encode_adpcm_ima(sample, &mut next);
+    let next = (next.predictor, next.step_index);
+    let input = [&sample.to_be_bytes(), &bytes(state)[..]].concat();
+    let answer = [&[nibble], &bytes(next)[..]].concat();
+    line(0x06, &input, &answer);
+    (nibble, next)
+}
+
+fn of((predictor, step_index): (i16, u8)) -> AdpcmImaState {
+    AdpcmImaState {
+        predictor,
+        step_index,
+    }
+}
+
+fn bytes((predictor, index): (i16, u8)) -> [u8; 3] {
+    let [high, low] = predictor.to_be_bytes();
+    [high, low, index]
 }
 
 fn title(text: &str) {
