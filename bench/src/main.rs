@@ -1,9 +1,12 @@
 //! Times each call of the proved library and the oracle's, and prints a Markdown table. What it is
 //! doing goes to standard error, so that standard output can go to a file.
 
+mod adpcm_ima;
 #[path = "../../tests/differential/src/ffi.rs"]
 mod ffi;
 mod g711;
+#[path = "../../tests/differential/src/nibble.rs"]
+mod nibble;
 mod timing;
 
 fn main() {
@@ -21,7 +24,7 @@ fn main() {
     println!("| call | ours | Rust | ours / Rust | Rust behind a call |");
     println!("|---|---:|---:|---:|---:|");
     // each family of calls adds its rows
-    for row in g711::rows() {
+    for row in g711::rows().into_iter().chain(adpcm_ima::rows()) {
         println!(
             "| {} | {:.2} | {:.2} | {:.2} | {:.2} |",
             row.call,
