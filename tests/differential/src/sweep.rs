@@ -7,7 +7,7 @@ use crate::report::Report;
 
 mod c {
     extern "C" {
-        pub fn sweep_encode(predictor: i16, step_index: u8, answers: *mut u32);
+        pub fn sweep_encode(predictor: i16, step_index: u8, answers: *mut u32, len: usize) -> u8;
     }
 }
 
@@ -29,8 +29,11 @@ impl Sweep<'_> {
     pub fn state(&mut self, predictor: i16, index: u8) -> u64 {
         // so that an answer which is not written is seen
         self.answers.fill(NONE);
-        // SAFETY: the proved function writes these 65,536 numbers, which nobody else borrows.
-        unsafe { c::sweep_encode(predictor, index, self.answers.as_mut_ptr()) };
+        let answers = self.answers.as_mut_slice();
+        // SAFETY: the proved function writes these numbers, which nobody else borrows.
+        let refusal =
+            unsafe { c::sweep_encode(predictor, index, answers.as_mut_ptr(), answers.len()) };
+        assert_eq!(refusal, 0, "a buffer for all samples is taken");
         let differ = u64::from(differ(predictor, index, &self.answers));
         if differ > 0 {
             self.print(predictor, index);
