@@ -62,7 +62,7 @@ fn changes(encode: impl Fn(i16) -> u8) -> BTreeSet<i16> {
 /// One nibble of IMA ADPCM. A state is a predictor and an index.
 fn adpcm_ima() {
     title("05 decode_adpcm_ima: nibble, predictor, index, sample, next predictor, next index");
-    title("some that were known beforehand");
+    title("the numbers that the scope names");
     assert_eq!(decode(7, (0, 0)), (11, (11, 8)));
     assert_eq!(decode(15, (0, 0)), (-11, (-11, 8)));
     assert_eq!(decode(8, (0, 0)), (0, (0, 0)));
@@ -74,7 +74,7 @@ fn adpcm_ima() {
     }
 
     title("06 encode_adpcm_ima: sample, predictor, index, nibble, next predictor, next index");
-    title("some that were known beforehand");
+    title("the numbers that the scope names");
     assert_eq!(encode(0, (0, 0)), (0, (0, 0)));
     assert_eq!(encode(-1, (0, 0)), (9, (-1, 0)));
     assert_eq!(encode(32767, (0, 0)), (7, (11, 8)));

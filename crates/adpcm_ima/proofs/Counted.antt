@@ -1,11 +1,12 @@
 -- Taking the parts greedily and counting the sums of parts that are reached give the same number.
 -- Below the first part a test is the second level's own; from it on it is that test of what is left. Assumes nothing.
-use mathlib.Core.Path.{_≡_, refl, ap, _∙_}
-use mathlib.Core.Bool.{Bool, true, false}
+use mathlib.Core.Path.{_≡_, refl}
+use mathlib.Core.Bool.{false}
 use Prim.Native.Nat.{ℕ, _+_, _-_, _/_, _≤_, _<_}
 use native.Mathlib.Omega.{arith}
 use lib.Dec.{leb}
 use borrow.Author.Tests.{leb-true, leb-false, le-leb, lt-leb}
+use borrow.Table.Steps.{cases}
 use Rattle.num.proofs.Tests.{leb-same}
 use Rattle.adpcm_ima.specs.Step.{part, takes, left, greedy}
 use Rattle.adpcm_ima.specs.Reached.{reachedOf}
@@ -35,23 +36,24 @@ module _ (s r : ℕ) where
       less₂ = leb-same (s + s / 2 + s / 4) r (0 + s / 2 + s / 4) (r - s) (λ h. omega arith) (λ h. omega arith)
 
   -- the two smaller parts
-  two : (is : Bool) → leb (s / 2) r ≡ is → reachedOf 0 s r ≡ part (takes r (s / 2)) 2 + part (takes (left r (s / 2)) (s / 4)) 1
-  two true e =
+  two : reachedOf 0 s r ≡ part (takes r (s / 2)) 2 + part (takes (left r (s / 2)) (s / 4)) 1
+  two =
+      cases (leb (s / 2) r)
+      (λ e.
       let k = leb-true (s / 2) r e in
       let third = leb-same (0 + s / 2 + s / 4) r (s / 4) (r - s / 2) (λ h. omega arith) (λ h. omega arith) in
-      rw (e, le-leb (0 + s / 4) r (omega arith), le-leb (0 + s / 2) r (omega arith), third) refl
-  two false e =
+      rw (e, le-leb (0 + s / 4) r (omega arith), le-leb (0 + s / 2) r (omega arith), third) refl)
+      (λ e.
       let k = leb-false (s / 2) r e in
       let first = leb-same (0 + s / 4) r (s / 4) (r - 0) (λ h. omega arith) (λ h. omega arith) in
-      rw (e, lt-leb (0 + s / 2) r (omega arith), lt-leb (0 + s / 2 + s / 4) r (omega arith), first) (omega arith)
+      rw (e, lt-leb (0 + s / 2) r (omega arith), lt-leb (0 + s / 2 + s / 4) r (omega arith), first) (omega arith))
 
 pub counted : (s r : ℕ) → reachedOf 0 s r + part (takes r s) 1 + reachedOf s s r ≡ greedy s r
 unfolding greedy
-counted s r = go (leb s r) refl
-  where
-    go : (is : Bool) → leb s r ≡ is → reachedOf 0 s r + part (takes r s) 1 + reachedOf s s r ≡ greedy s r
-    go true e = let l = leb-true s r e in rw (all s r l, rest s r l, two s (r - s) (leb (s / 2) (r - s)) refl, e) (omega arith)
-    go false e =
-        let l = leb-false s r e in
-        let minus : r - 0 ≡ r = omega arith in
-        rw (none s r l, two s r (leb (s / 2) r) refl, e, minus) (omega arith)
+counted s r =
+    cases (leb s r)
+    (λ e. let l = leb-true s r e in rw (all s r l, rest s r l, two s (r - s), e) (omega arith))
+    (λ e.
+    let l = leb-false s r e in
+    let minus : r - 0 ≡ r = omega arith in
+    rw (none s r l, two s r, e, minus) (omega arith))

@@ -1,6 +1,6 @@
 -- The law of reach, over a step and two limits. With a room below the predictor and one above it, every number is a distance from the
 -- predictor on one side, and the law is one about naturals: a nibble fits if its m is at most the room on its side. Assumes nothing.
-use mathlib.Core.Path.{_≡_, sym, ap, _∙_}
+use mathlib.Core.Path.{_≡_, sym, ap, ap₂, _∙_}
 use mathlib.Core.Bool.{Bool, true, false, not, cond, _&&_, and-eq-true-iff, false≢true, true≢false}
 use Prim.Native.Nat.{ℕ, zero, suc, _+_, _/_, min, _<_, _≤_}
 use native.Mathlib.Nat.{lt-of-not-le}
@@ -10,23 +10,23 @@ use lib.IntN.{ℤ, pos, negsuc, negℤ, _+ℤ_, _-ℤ_}
 use lib.Signed.{_≤ℤ_}
 use borrow.Author.Tests.{le-leb, lt-ltb, leb-true, ltb-true, eqb-true, eq-eqb, ne-eqb}
 use borrow.Table.Steps.{cases}
-use Rattle.num.proofs.Shift.{≤ℤ-trans, signed, take-off, put-on, rise, fall, shift-le, shift-lt-self, neg-le, neg-lt, clamp-step, clamp-within}
-use Rattle.adpcm_ima.specs.Step.{bit, part, m, d, predicted, greedy, nibbleOf}
-use Rattle.adpcm_ima.specs.Reach.{reachable}
+use Rattle.num.proofs.Shift.{≤ℤ-trans, signed, take-off, put-on, rise, fall, shift-le, shift-lt-self, neg-le, neg-lt, clamp-step}
+use Rattle.num.proofs.Within.{clamp-within}
+use Rattle.adpcm_ima.specs.Step.{bit, part, d, predicted, greedy, nibbleOf, needed, reachable}
 use Rattle.adpcm_ima.proofs.Bounds.{nibble-lt}
 use Rattle.adpcm_ima.proofs.Parts.{parts, none, finds, empty}
 
 -- the test on naturals, with a room of a below the predictor and of b above it, and what it says where it passed
 abbrev test : ℕ → ℕ → ℕ → ℕ → Bool → Bool
-test s a b v is = cond is (leb (m s v) a && ltb 0 a && not (eqb v 8 && eqb (s / 8) 0)) (leb (m s v) b)
+test s a b v is = cond is (leb (needed s v) a && ltb 0 a && not (eqb v 8 && eqb (s / 8) 0)) (leb (needed s v) b)
 
 passed : (s a b v : ℕ) (is : Bool) → test s a b v is ≡ true
-    → (m s v ≤ cond is a b) × (T is → (0 < cond is a b) × (v ≡ part is 8 → s / 8 ≡ 0 → ⊥))
+    → (needed s v ≤ cond is a b) × (T is → (0 < cond is a b) × (v ≡ part is 8 → s / 8 ≡ 0 → ⊥))
 passed s a b v true t =
-    let (u, n) = and-eq-true-iff (leb (m s v) a && ltb 0 a) (not (eqb v 8 && eqb (s / 8) 0)) .0 t in
-    let (l, h) = and-eq-true-iff (leb (m s v) a) (ltb 0 a) .0 u in
-    (leb-true (m s v) a l, λ _. (ltb-true 0 a h, λ e z. false≢true (rw (eq-eqb v 8 e, eq-eqb (s / 8) 0 z) at n)))
-passed s a b v false t = (leb-true (m s v) b t, λ t. absurd t)
+    let (u, n) = and-eq-true-iff (leb (needed s v) a && ltb 0 a) (not (eqb v 8 && eqb (s / 8) 0)) .0 t in
+    let (l, h) = and-eq-true-iff (leb (needed s v) a) (ltb 0 a) .0 u in
+    (leb-true (needed s v) a l, λ _. (ltb-true 0 a h, λ e z. false≢true (rw (eq-eqb v 8 e, eq-eqb (s / 8) 0 z) at n)))
+passed s a b v false t = (leb-true (needed s v) b t, λ t. absurd t)
 
 -- the nibble of a distance r on one side, where 0 is no distance below
 nibble-is : (s : ℕ) (p : ℤ) (is : Bool) (r : ℕ) → (T is → 0 < r) → nibbleOf s p (p +ℤ signed is r) ≡ part is 8 + greedy s r
@@ -44,9 +44,12 @@ module _ (lowest highest : ℤ) (s : ℕ) (4≤s : 4 ≤ s) (p : ℤ) (a b : ℕ
   reachable-is : (v : ℕ) → reachable lowest highest s p v ≡ test s a b v (bit 8 v)
   unfolding reachable
   reachable-is v =
-      let n = pos (m s v) in
+      let n = pos (needed s v) in
       let z = negℤ (pos a) in
-      rw (low, high, shift-le p z (negℤ n), neg-le (pos a) n, shift-lt-self p z, neg-lt (pos a) (pos 0), shift-le p n (pos b))
+      let fits = shift-le p z (negℤ n) ∙ neg-le (pos a) n in
+      let above = shift-lt-self p z ∙ neg-lt (pos a) (pos 0) in
+      let negative = ap₂ (λ (x y : Bool). x && y && not (eqb v 8 && eqb (s / 8) 0)) fits above in
+      rw (low, high) (ap₂ (cond (bit 8 v)) negative (shift-le p n (pos b)))
 
   emits-at : (z : ℤ) → lowest ≤ℤ (p +ℤ z) → (p +ℤ z) ≤ℤ highest → reachable lowest highest s p (nibbleOf s p (p +ℤ z)) ≡ true
   unfolding nibbleOf
@@ -54,13 +57,13 @@ module _ (lowest highest : ℤ) (s : ℕ) (4≤s : 4 ≤ s) (p : ℤ) (a b : ℕ
       let v = 0 + greedy s n in
       let (fits, sign) = parts s n false in
       let room = leb→le n b (rw (high, shift-le p (pos n) (pos b)) at (h .le)) in
-      rw (take-off p (pos n), reachable-is v, sign) (le-leb (m s v) b (omega arith))
+      rw (take-off p (pos n), reachable-is v, sign) (le-leb (needed s v) b (omega arith))
   emits-at (negsuc n) l h =
       let v = 8 + greedy s (suc n) in
       let (fits, sign) = parts s (suc n) true in
       let room = leb→le (suc n) a (rw (low, shift-le p (negℤ (pos a)) (negsuc n), neg-le (pos a) (pos (suc n))) at (l .le)) in
       let some : v ≡ 8 → s / 8 ≡ 0 → ⊥ = λ e z. omega (arith, none s (suc n) (omega arith)) in
-      rw (take-off p (negsuc n), reachable-is v, sign, le-leb (m s v) a (omega arith), lt-ltb 0 a (omega arith))
+      rw (take-off p (negsuc n), reachable-is v, sign, le-leb (needed s v) a (omega arith), lt-ltb 0 a (omega arith))
       (cases (eqb v 8) (λ e. rw (e, ne-eqb (s / 8) 0 (some (eqb-true v 8 e)))) (λ e. rw e))
 
   -- a reachable nibble comes back

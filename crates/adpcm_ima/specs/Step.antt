@@ -1,11 +1,12 @@
 -- One nibble of IMA ADPCM, decoded and encoded. A state is a predictor and a step index.
 -- All is given over a table of steps and the limits of the two numbers; `sixteen` has the limits of the 16-bit codec. Assumes nothing.
-use mathlib.Core.Bool.{Bool, cond}
+use mathlib.Core.Bool.{Bool, not, cond, _&&_}
 use mathlib.Core.List.{List}
 use Prim.Native.Nat.{ℕ, _+_, _-_, _*_, _/_, _%_, min}
 use lib.Dec.{ltb, leb, eqb}
 use lib.IntN.{ℤ, pos, negsuc, natAbs, _+ℤ_, _-ℤ_}
 use lib.ListN.{getD}
+use lib.Signed.{ltZ, leZ}
 use Rattle.num.specs.Clamp.{clamp}
 
 pub record State : Type 0 where
@@ -95,3 +96,16 @@ nibbleOf s p x = sign (x -ℤ p) + greedy s (natAbs (x -ℤ p))
 
 abbrev pub emitted : Limits → List ℕ → State → ℤ → ℕ
 emitted limits steps st x = nibbleOf (stepAt limits steps st) (st .predictor) x
+
+-- ---- Reach
+
+-- Which nibbles the encoder can write from a predictor, over a step s and the predictor's two limits. It is m that must fit,
+abbrev pub needed : ℕ → ℕ → ℕ
+needed s v = m s v
+
+-- and a negative nibble also needs a predictor above the lower limit, and is not 8 where s/8 is 0.
+unfoldable pub reachable : ℤ → ℤ → ℕ → ℤ → ℕ → Bool
+reachable lowest highest s p v =
+    cond (bit 8 v)
+    (leZ lowest (p -ℤ pos (needed s v)) && ltZ lowest p && not (eqb v 8 && eqb (s / 8) 0))
+    (leZ (p +ℤ pos (needed s v)) highest)

@@ -7,7 +7,7 @@ use native.Mathlib.Omega.{arith}
 use lib.Dec.{T, leb, ltb, leb·zero, leb·suc-zero, leb·suc-suc}
 use lib.IntN.{ℤ, pos, negsuc, negℤ, natAbs, subℕ, _+ℤ_, _-ℤ_}
 use lib.IntN.{+ℤ-assoc, +ℤ-comm, +ℤ-idr, negℤ-negℤ, negℤ-+ℤ, +ℤ-negℤ-cancel, -ℤ-+ℤ-cancel}
-use lib.Signed.{ltZ, leZ, nonNeg, _≤ℤ_, ltZ-yes, ltZ-no, ≤ℤ-refl, <ℤ-≤ℤ-trans, clashℤ, pos-natAbs}
+use lib.Signed.{ltZ, leZ, nonNeg, _≤ℤ_, ltZ-yes, ltZ-no, <ℤ-≤ℤ-trans, clashℤ, pos-natAbs}
 use borrow.Author.Tests.{lt-ltb, le-ltb, leb-true, leb-false, ltb-true, ltb-false}
 use borrow.Table.Steps.{cases}
 use Rattle.num.specs.Clamp.{clamp}
@@ -37,12 +37,6 @@ lt-is (negsuc a) (negsuc b) = lt-not b a
 pub ≤ℤ-trans : {a b c : ℤ} → a ≤ℤ b → b ≤ℤ c → a ≤ℤ c
 ≤ℤ-trans {a} {b} {c} h k =
     cases (ltZ c a) (λ e. clashℤ (<ℤ-≤ℤ-trans (ltZ-yes (rw e tt)) h) k) (λ e. ltZ-no (rw e tt))
-
-pub clamp-within : {a b : ℤ} → a ≤ℤ b → (x : ℤ) → (a ≤ℤ clamp a b x) × (clamp a b x ≤ℤ b)
-clamp-within {a} {b} h x =
-    cases (ltZ x a)
-    (λ e. rw e (≤ℤ-refl a, h))
-    (λ e. rw e (cases (ltZ b x) (λ f. rw f (h, ≤ℤ-refl b)) (λ f. rw f (ltZ-no (rw e tt), ltZ-no (rw f tt)))))
 
 -- every number moved by p
 module _ (p : ℤ) where

@@ -10,7 +10,8 @@ use lib.Signed.{mag, ltZ, nonNeg}
 use mir.Syntax.{Width, w16, w32}
 use mir.Val.{bits, hbits, SFits, Fits, toZ, ofZ}
 use mir.ValLaws.{toZ-ofZ}
-use borrow.Author.Tests.{ltb-true, ltb-false, le-ltb}
+use borrow.Author.Tests.{ltb-true, le-ltb}
+use borrow.Table.Steps.{cases}
 
 -- ---- sums
 
@@ -32,14 +33,13 @@ pub minus-one : (n : ℕ) → negsuc 0 -ℤ pos n ≡ negsuc n
 minus-one zero = refl
 minus-one (suc n) = ap negsuc (omega arith)
 
-mag-sub : (a b : ℕ) (is : Bool) → ltb a b ≡ is → mag (subℕ a b) ≤ a + b
-mag-sub a b true e = let h = ltb-true a b e in rw e (omega arith)
-mag-sub a b false e = rw e (omega arith)
+mag-sub : (a b : ℕ) → mag (subℕ a b) ≤ a + b
+mag-sub a b = cases (ltb a b) (λ e. rw e (omega (arith, ltb-true a b e))) (λ e. rw e (omega arith))
 
 pub mag-add : (x y : ℤ) → mag (x +ℤ y) ≤ suc (mag x + mag y)
 mag-add (pos a) (pos b) = omega arith
-mag-add (pos a) (negsuc b) = let h = mag-sub a (suc b) (ltb a (suc b)) refl in omega arith
-mag-add (negsuc a) (pos b) = let h = mag-sub b (suc a) (ltb b (suc a)) refl in omega arith
+mag-add (pos a) (negsuc b) = let h = mag-sub a (suc b) in omega arith
+mag-add (negsuc a) (pos b) = let h = mag-sub b (suc a) in omega arith
 mag-add (negsuc a) (negsuc b) = omega arith
 
 pub mag-neg : (x : ℤ) → mag (negℤ x) ≤ suc (mag x)

@@ -1,30 +1,29 @@
--- How large a clamped number is: it is one of the limits, or both tests have said that it lies between. Assumes nothing.
-use mathlib.Core.Path.{_≡_, refl, subst}
-use mathlib.Core.Bool.{Bool, true, false}
-use Prim.Native.Nat.{ℕ, _≤_}
-use native.Mathlib.Omega.{arith}
-use lib.Dec.{T}
+-- A clamped number lies between its limits, and how large it can be then. Assumes nothing.
+use Prim.Native.Nat.{ℕ, _≤_, zero-le}
+use lib.Dec.{leb→le, le→leb}
 use lib.IntN.{ℤ, pos, negsuc, natAbs}
-use lib.Signed.{mag, ltZ}
-use borrow.Author.Tests.{ltb-false}
+use lib.Signed.{mag, ltZ, _≤ℤ_, ltZ-no, ≤ℤ-refl}
+use borrow.Table.Steps.{cases}
 use Rattle.num.specs.Clamp.{clamp}
+
+pub clamp-within : {a b : ℤ} → a ≤ℤ b → (x : ℤ) → (a ≤ℤ clamp a b x) × (clamp a b x ≤ℤ b)
+clamp-within {a} {b} h x =
+    cases (ltZ x a)
+    (λ e. rw e (≤ℤ-refl a, h))
+    (λ e. rw e (cases (ltZ b x) (λ f. rw f (h, ≤ℤ-refl b)) (λ f. rw f (ltZ-no (rw e tt), ltZ-no (rw f tt)))))
 
 -- between -(n + 1) and n
 pub mag-clamp : (n : ℕ) (x : ℤ) → mag (clamp (negsuc n) (pos n) x) ≤ n
-mag-clamp n x = go x (ltZ x (negsuc n)) (ltZ (pos n) x) refl refl
+mag-clamp n x = let (l, h) = clamp-within {a = negsuc n} {b = pos n} (record { le = tt }) x in small _ l h
   where
-    go : (x : ℤ) (under over : Bool) → ltZ x (negsuc n) ≡ under → ltZ (pos n) x ≡ over → mag (clamp (negsuc n) (pos n) x) ≤ n
-    go x true over e f = rw e (omega arith)
-    go x false true e f = rw (e, f) (omega arith)
-    go (pos a) false false e f = rw f (omega (arith, ltb-false n a f))
-    go (negsuc a) false false e f = rw e (omega (arith, ltb-false n a e))
+    small : (z : ℤ) → negsuc n ≤ℤ z → z ≤ℤ pos n → mag z ≤ n
+    small (pos a) l h = leb→le a n (h .le)
+    small (negsuc a) l h = leb→le a n (l .le)
 
 -- between 0 and n
 pub clamp-le : (n : ℕ) (x : ℤ) → natAbs (clamp (pos 0) (pos n) x) ≤ n
-clamp-le n x = go x (ltZ x (pos 0)) (ltZ (pos n) x) refl refl
+clamp-le n x = let (l, h) = clamp-within {a = pos 0} {b = pos n} (record { le = le→leb 0 n zero-le }) x in small _ l h
   where
-    go : (x : ℤ) (under over : Bool) → ltZ x (pos 0) ≡ under → ltZ (pos n) x ≡ over → natAbs (clamp (pos 0) (pos n) x) ≤ n
-    go x true over e f = rw e (omega arith)
-    go x false true e f = rw (e, f) (omega arith)
-    go (pos a) false false e f = rw (e, f) (omega (arith, ltb-false n a f))
-    go (negsuc a) false false e f = absurd (subst T e tt)
+    small : (z : ℤ) → pos 0 ≤ℤ z → z ≤ℤ pos n → natAbs z ≤ n
+    small (pos a) l h = leb→le a n (h .le)
+    small (negsuc a) l h = absurd (l .le)

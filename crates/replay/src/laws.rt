@@ -1,6 +1,6 @@
 // The calls of the two laws.
-use crate::answer::no_call;
 use crate::answer::Answer;
+use crate::answer::no_call;
 use g711::decode_alaw;
 use g711::decode_ulaw;
 use g711::encode_alaw;

@@ -6,8 +6,8 @@ mod laws;
 mod list;
 mod nibbles;
 
-use answer::no_call;
 use answer::Answer;
+use answer::no_call;
 use libc::STDOUT_FILENO;
 use list::read_line;
 ghost use Prim.Native.Nat.{_<_};

@@ -1,6 +1,6 @@
 // The calls on one nibble.
-use crate::answer::no_call;
 use crate::answer::Answer;
+use crate::answer::no_call;
 use adpcm_ima::AdpcmImaState;
 use num::from_halves;
 ghost use mathlib.Core.Path.{_≡_};

@@ -7,7 +7,7 @@ use mir.Syntax.{w16}
 use mir.Val.{SFits}
 use mir.ValLaws.{toZ-ofZ}
 use borrow.Author.Needs.{needs}
-use Rattle.adpcm_ima.specs.Step.{State, sixteen, stepAt, stepped, emitted}
+use Rattle.adpcm_ima.specs.Step.{sixteen, stepAt, stepped, emitted}
 use Rattle.adpcm_ima.specs.View.{wideOf, narrow}
 use Rattle.adpcm_ima.proofs.Bounds.{nibble-lt, narrow-is}
 use Rattle.sweep.specs.Answers.{packed, answerOf}

@@ -1,6 +1,5 @@
 -- `sweep::sample` meets its contract: a number below 65536, less 32768, fits 16 bits. Assumes nothing.
-use mathlib.Core.Path.{_≡_, refl, ap, _∙_}
-use mathlib.Core.Bool.{Bool, true, false}
+use mathlib.Core.Path.{_≡_, ap, _∙_}
 use Prim.Native.Nat.{ℕ, _<_, _≤_}
 use native.Mathlib.Omega.{arith}
 use lib.Dec.{ltb}
@@ -11,25 +10,28 @@ use mir.Val.{SFits, toZ, ofZ}
 use mir.ValLaws.{toZ-ofZ, toZ-pos}
 use borrow.Author.Needs.{needs}
 use borrow.Author.Tests.{ltb-true, ltb-false}
+use borrow.Table.Steps.{cases}
 use Rattle.sweep.proofs.sample.Statement.{statement}
 use Rattle.sweep.proofs.sample.Tie as tie
 
 module _ (k : ℕ) (h : k < 65536) where
-  small : (is : Bool) → ltb k 32768 ≡ is → mag (subℕ k 32768) ≤ 32767
-  small true e = rw e (omega (arith, ltb-true k 32768 e))
-  small false e = rw e (omega (arith, ltb-false k 32768 e))
+  small : mag (subℕ k 32768) ≤ 32767
+  small =
+      cases (ltb k 32768)
+      (λ e. rw e (omega (arith, ltb-true k 32768 e)))
+      (λ e. rw e (omega (arith, ltb-false k 32768 e)))
 
   exact : toZ w32 k -ℤ pos 32768 ≡ subℕ k 32768
   exact = ap (λ (z : ℤ). z -ℤ pos 32768) (toZ-pos w32 k (omega arith))
 
   fits : SFits w32 (toZ w32 k -ℤ pos 32768)
-  fits = rw exact (record { sfits = omega (arith, small (ltb k 32768) refl) })
+  fits = rw exact (record { sfits = omega (arith, small) })
 
   reads : toZ w32 (ofZ w32 (toZ w32 k -ℤ pos 32768)) ≡ subℕ k 32768
   reads = toZ-ofZ w32 _ fits ∙ exact
 
   narrows : SFits w16 (toZ w32 (ofZ w32 (toZ w32 k -ℤ pos 32768)))
-  narrows = rw reads (record { sfits = omega (arith, small (ltb k 32768) refl) })
+  narrows = rw reads (record { sfits = omega (arith, small) })
 
 cast-result : tie.Need-cast-result
 cast-result c = search needs

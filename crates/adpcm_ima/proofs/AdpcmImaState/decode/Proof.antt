@@ -1,5 +1,5 @@
 -- `adpcm_ima::AdpcmImaState::decode` meets its contract: it is the step on the wide state, with the table. Assumes nothing.
-use mathlib.Core.Path.{_≡_, sym, ap, _∙_}
+use mathlib.Core.Path.{sym, ap, _∙_}
 use mir.Syntax.{w16}
 use mir.Val.{SFits}
 use mir.ValLaws.{toZ-ofZ}

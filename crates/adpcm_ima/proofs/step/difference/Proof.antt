@@ -1,5 +1,5 @@
 -- `adpcm_ima::step::difference` meets its contract: in 32 bits the difference of two numbers of 16 is exact. Assumes nothing.
-use mathlib.Core.Path.{_≡_, sym, ap₂, _∙_, subst}
+use mathlib.Core.Path.{_≡_, ap₂, _∙_}
 use Prim.Native.Nat.{_<_}
 use native.Mathlib.Omega.{arith}
 use lib.IntN.{ℤ, negℤ, _-ℤ_}

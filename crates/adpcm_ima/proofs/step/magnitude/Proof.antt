@@ -1,6 +1,4 @@
 -- `adpcm_ima::step::magnitude` meets its contract by the law `counted`. Assumes nothing.
-use mathlib.Core.Path.{_≡_, ap₂, _∙_}
-use Prim.Native.Nat.{_+_}
 use Rattle.adpcm_ima.proofs.Counted.{counted}
 use borrow.Author.Needs.{needs}
 use native.Mathlib.Omega.{arith}

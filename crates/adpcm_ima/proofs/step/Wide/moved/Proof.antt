@@ -1,12 +1,10 @@
 -- `adpcm_ima::step::Wide::moved` meets its contract: the predictor and the index are the definition's. Assumes nothing.
-use mathlib.Core.Path.{_≡_, refl}
-use Prim.Native.Nat.{ℕ}
-use lib.IntN.{ℤ, pos, negsuc}
+use mathlib.Core.Path.{refl}
 use mir.Syntax.{w16}
 use mir.Val.{SFits}
 use mir.ValLaws.{toZ-ofZ}
 use borrow.Author.Needs.{needs}
-use Rattle.adpcm_ima.specs.Step.{State, stepped, stepAt}
+use Rattle.adpcm_ima.specs.Step.{stepped, stepAt}
 use Rattle.adpcm_ima.proofs.step.Wide.moved.Statement.{statement}
 use Rattle.adpcm_ima.proofs.step.Wide.moved.Tie as tie
 
