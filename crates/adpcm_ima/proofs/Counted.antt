@@ -9,7 +9,10 @@ use borrow.Author.Tests.{leb-true, leb-false, le-leb, lt-leb}
 use borrow.Table.Steps.{cases}
 use Rattle.num.proofs.Tests.{leb-same}
 use Rattle.adpcm_ima.specs.Step.{part, takes, left, greedy}
-use Rattle.adpcm_ima.specs.Reached.{reachedOf}
+
+-- how many of a + s/4, a + s/2 and a + s/2 + s/4 the difference r reaches
+abbrev pub reachedOf : ℕ → ℕ → ℕ → ℕ
+reachedOf a s r = part (takes r (a + s / 4)) 1 + part (takes r (a + s / 2)) 1 + part (takes r (a + s / 2 + s / 4)) 1
 
 module _ (s r : ℕ) where
   -- a difference below the first part reaches none of the sums that have it, and any other all of those that have not

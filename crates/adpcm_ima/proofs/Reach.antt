@@ -1,18 +1,18 @@
 -- The law of reach, over a step and two limits. With a room below the predictor and one above it, every number is a distance from the
 -- predictor on one side, and the law is one about naturals: a nibble fits if its m is at most the room on its side. Assumes nothing.
-use mathlib.Core.Path.{_≡_, sym, ap, ap₂, _∙_}
+use mathlib.Core.Path.{_≡_, refl, sym, ap, ap₂, _∙_}
 use mathlib.Core.Bool.{Bool, true, false, not, cond, _&&_, and-eq-true-iff, false≢true, true≢false}
 use Prim.Native.Nat.{ℕ, zero, suc, _+_, _/_, min, _<_, _≤_}
 use native.Mathlib.Nat.{lt-of-not-le}
 use native.Mathlib.Omega.{arith}
 use lib.Dec.{T, ltb, leb, eqb, leb→le}
 use lib.IntN.{ℤ, pos, negsuc, negℤ, _+ℤ_, _-ℤ_}
-use lib.Signed.{_≤ℤ_}
+use lib.Signed.{ltZ, leZ, _≤ℤ_, ltZ-yes, ≤ℤ-refl, <ℤ-irrefl}
 use borrow.Author.Tests.{le-leb, lt-ltb, leb-true, ltb-true, eqb-true, eq-eqb, ne-eqb}
 use borrow.Table.Steps.{cases}
 use Rattle.num.proofs.Shift.{≤ℤ-trans, signed, take-off, put-on, rise, fall, shift-le, shift-lt-self, neg-le, neg-lt, clamp-step}
 use Rattle.num.proofs.Within.{clamp-within}
-use Rattle.adpcm_ima.specs.Step.{bit, part, d, predicted, greedy, nibbleOf, needed, reachable}
+use Rattle.adpcm_ima.specs.Step.{bit, part, m, d, predicted, greedy, nibbleOf, needed, reachable}
 use Rattle.adpcm_ima.proofs.Bounds.{nibble-lt}
 use Rattle.adpcm_ima.proofs.Parts.{parts, none, finds, empty}
 
@@ -108,3 +108,28 @@ module _ (lowest highest : ℤ) (s : ℕ) (4≤s : 4 ≤ s) (p : ℤ) (above : l
   -- And whatever was encoded, from any sample, is decoded and encoded to itself.
   pub settles : (x : ℤ) → lowest ≤ℤ x → x ≤ℤ highest → nibbleOf s p (predicted lowest highest s p (nibbleOf s p x)) ≡ nibbleOf s p x
   settles x l h = eqb-true _ (nibbleOf s p x) (again (nibbleOf s p x) (nibble-lt s p x) ∙ emits x l h)
+
+  -- So nibble 8 is never emitted where s/8 is 0, as at step 7; there it decodes like 0.
+  pub no-eight : s / 8 ≡ 0 → (x : ℤ) → lowest ≤ℤ x → x ≤ℤ highest → nibbleOf s p x ≡ 8 → ⊥
+  unfolding reachable
+  no-eight z x l h e =
+      let t = rw e at (emits x l h) in
+      let n = and-eq-true-iff (leZ lowest (p -ℤ pos (needed s 8)) && ltZ lowest p) (not (eqb 8 8 && eqb (s / 8) 0)) .0 t .1 in
+      false≢true (rw (eq-eqb (s / 8) 0 z) at n)
+
+  pub like-zero : s / 8 ≡ 0 → predicted lowest highest s p 8 ≡ predicted lowest highest s p 0
+  unfolding predicted m
+  like-zero z = rw z refl
+
+-- Nor is any negative nibble emitted from the lower limit.
+pub no-negative : (lowest highest : ℤ) (s : ℕ) → 4 ≤ s → (x : ℤ) → lowest ≤ℤ x → x ≤ℤ highest → bit 8 (nibbleOf s lowest x) ≡ false
+unfolding reachable
+no-negative lowest highest s 4≤s x l h =
+    let v = nibbleOf s lowest x in
+    let t = emits lowest highest s 4≤s lowest (≤ℤ-refl lowest) (≤ℤ-trans l h) x l h in
+    cases (bit 8 v)
+    (λ e.
+    let (u, n) = and-eq-true-iff (leZ lowest (lowest -ℤ pos (needed s v)) && ltZ lowest lowest) (not (eqb v 8 && eqb (s / 8) 0)) .0 (rw e at t) in
+    let above = and-eq-true-iff (leZ lowest (lowest -ℤ pos (needed s v))) (ltZ lowest lowest) .0 u .1 in
+    absurd (<ℤ-irrefl (ltZ-yes {a = lowest} (rw above tt))))
+    (λ e. e)

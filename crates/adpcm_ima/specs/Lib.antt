@@ -1,4 +1,3 @@
-pub mod Reached
 pub mod Step
 pub mod Table
 pub mod View

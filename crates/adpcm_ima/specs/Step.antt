@@ -39,6 +39,7 @@ stepAt limits steps st = getD steps (lowered limits (st .index)) 0
 abbrev pub bit : ℕ → ℕ → Bool
 bit weight v = eqb (v / weight % 2) 1
 
+-- (what counts only if a bit is set, or a part taken)
 abbrev pub part : Bool → ℕ → ℕ
 part is x = cond is x 0
 

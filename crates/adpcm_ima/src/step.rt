@@ -12,7 +12,6 @@ ghost use lib.ListN.{getD};
 ghost use lib.Signed.{mag};
 ghost use Rattle.adpcm_ima.specs.Step as Step;
 ghost use Rattle.adpcm_ima.specs.Step.{sixteen, stepped, emitted, bit, d, indexed, greedy};
-ghost use Rattle.adpcm_ima.specs.Reached.{reachedOf};
 ghost use Rattle.adpcm_ima.specs.View.{stateOf, wideOf, narrow};
 
 // An index that needs no widening before it is a place in the table.
@@ -147,7 +146,7 @@ fn magnitude(s: u32, r: u32) -> u32
 // How many of a + s/4, a + s/2 and a + s/2 + s/4 the difference reaches.
 fn reached(a: u32, s: u32, r: u32) -> u32
     requires { ⌜ (a < 65536) × (s < 65536) ⌝ }
-    ensures { λ n. ⌜ (n ≡ reachedOf a s r) × (n ≤ 3) ⌝ }
+    ensures { λ n. ⌜ (n ≡ Step.part (Step.takes r (a + s / 4)) 1 + Step.part (Step.takes r (a + s / 2)) 1 + Step.part (Step.takes r (a + s / 2 + s / 4)) 1) × (n ≤ 3) ⌝ }
 {
     takes(r, a + s / 4) + takes(r, a + s / 2) + takes(r, a + s / 2 + s / 4)
 }
