@@ -10,9 +10,6 @@ use Rattle.adpcm_ima.specs.Table.{imaSteps}
 use Rattle.sprettuhol.proofs.spr_decode_adpcm_ima.Statement.{statement}
 use Rattle.sprettuhol.proofs.spr_decode_adpcm_ima.Tie as tie
 
-decode-requires : tie.Need-decode-requires
-decode-requires c κs = search needs
-
 returns : tie.Need-returns
 returns c =
     let s = c .before .before .before .before .before in
@@ -25,4 +22,4 @@ returns c =
     (ap (λ (z : ℤ). toZ w16 (ofZ w16 z)) (e .1), stored ∙ e .0 ∙ ap (λ (st : State). stepped sixteen imaSteps st (s .args .nibble)) given)
 
 pub spr-decode-adpcm-ima-spec : {M : Type 1} → statement M
-spr-decode-adpcm-ima-spec = tie.close (tie.spec decode-requires returns)
+spr-decode-adpcm-ima-spec = tie.close (tie.spec (λ c κs. search needs) returns)

@@ -10,9 +10,6 @@ use Rattle.adpcm_ima.specs.Table.{imaSteps}
 use Rattle.sprettuhol.proofs.spr_encode_adpcm_ima.Statement.{statement}
 use Rattle.sprettuhol.proofs.spr_encode_adpcm_ima.Tie as tie
 
-encode-requires : tie.Need-encode-requires
-encode-requires c κs = search needs
-
 returns : tie.Need-returns
 returns c =
     let s = c .before .before .before .before in
@@ -25,4 +22,4 @@ returns c =
     (e .0 ∙ ap₂ (emitted sixteen imaSteps) given (toZ-ofZ w16 _ (s .fits .sample)), stored ∙ e .1 ∙ ap (λ (st : State). stepped sixteen imaSteps st (r .nibble)) given)
 
 pub spr-encode-adpcm-ima-spec : {M : Type 1} → statement M
-spr-encode-adpcm-ima-spec = tie.close (tie.spec encode-requires returns)
+spr-encode-adpcm-ima-spec = tie.close (tie.spec (λ c κs. search needs) returns)

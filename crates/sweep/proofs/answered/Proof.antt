@@ -22,29 +22,8 @@ small c =
     let a = c .before .args in
     subst (λ (n : ℕ). n < 16) (sym (emits c)) (nibble-lt (stepAt sixteen (a .steps .now) (wideOf (a .wide))) (a .wide .predictor) (a .x))
 
-nibble-requires : tie.Need-nibble-requires
-nibble-requires c κs = search needs
-
-moved-requires : tie.Need-moved-requires
-moved-requires c κs = search needs
-
-narrowed-requires : tie.Need-narrowed-requires
-narrowed-requires c κs = search needs
-
-cast-result : tie.Need-cast-result
-cast-result c = search needs
-
-mul-result : tie.Need-mul-result
-mul-result c = search needs
-
 add-result : tie.Need-add-result
 add-result c = record { fits = omega (arith, small (c .before .before .before), c .struct-known .given) }
-
-biased-requires : tie.Need-biased-requires
-biased-requires c κs = search needs
-
-mul-result-2 : tie.Need-mul-result-2
-mul-result-2 c = search needs
 
 add-result-2 : tie.Need-add-result-2
 add-result-2 c = record { fits = omega (arith, small (c .before .before .before .before .before), c .biased .ensures .1, c .before .before .struct-known .given) }
@@ -67,13 +46,13 @@ pub answered-spec : {M : Type 1} → statement M
 answered-spec =
     tie.close
     (tie.spec
-    nibble-requires
-    moved-requires
-    narrowed-requires
-    cast-result
-    mul-result
+    (λ c κs. search needs)
+    (λ c κs. search needs)
+    (λ c κs. search needs)
+    (λ c. search needs)
+    (λ c. search needs)
     add-result
-    biased-requires
-    mul-result-2
+    (λ c κs. search needs)
+    (λ c. search needs)
     add-result-2
     returns)

@@ -33,9 +33,6 @@ module _ (k : ℕ) (h : k < 65536) where
   narrows : SFits w16 (toZ w32 (ofZ w32 (toZ w32 k -ℤ pos 32768)))
   narrows = rw reads (record { sfits = omega (arith, small) })
 
-cast-result : tie.Need-cast-result
-cast-result c = search needs
-
 sub-result : tie.Need-sub-result
 sub-result c = fits (c .args .k) (c .pre)
 
@@ -46,4 +43,4 @@ returns : tie.Need-returns
 returns c = toZ-ofZ w16 _ (narrows (c .args .k) (c .pre)) ∙ reads (c .args .k) (c .pre)
 
 pub sample-spec : {M : Type 1} → statement M
-sample-spec = tie.close (tie.spec cast-result sub-result cast-result-2 returns)
+sample-spec = tie.close (tie.spec (λ c. search needs) sub-result cast-result-2 returns)

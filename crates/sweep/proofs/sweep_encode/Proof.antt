@@ -31,26 +31,8 @@ abbrev μ-loop : tie.MeasureT-loop
 returns : tie.Need-returns Inv-loop μ-loop
 returns c = simp (ne-eqb _ _ (c .if1 .taken)) (refl, refl)
 
-of-requires : tie.Need-of-requires Inv-loop μ-loop
-of-requires c κs = search needs
-
 loop-holds : tie.Need-loop-holds Inv-loop μ-loop
 loop-holds c = (none (rule (wideOf (c .of .result))) 65536 (c .before .before .before .args .answers .now), c .before .if1 .left, omega arith)
-
-sample-requires : tie.Need-sample-requires Inv-loop μ-loop
-sample-requires c κs = search needs
-
-answered-requires : tie.Need-answered-requires Inv-loop μ-loop
-answered-requires c κs = search needs
-
-mul-answers : tie.Need-mul-answers Inv-loop μ-loop
-mul-answers c = search needs
-
-slice-write-answers : tie.Need-slice-write-answers Inv-loop μ-loop
-slice-write-answers c = search needs
-
-add-k : tie.Need-add-k Inv-loop μ-loop
-add-k c = search needs
 
 loop-less : tie.Need-loop-less Inv-loop μ-loop
 loop-less c = omega arith
@@ -67,9 +49,6 @@ loop-again c =
     let next : suc k ≡ k + 1 = omega arith in
     let turn = one-more (rule w) 65536 k (at .loop .answers) (inv .1) (omega arith) (inv .0) in
     (rw is (subst (Upto (rule w) 65536 (set (at .loop .answers) k (rule w k))) next turn), length-set (at .loop .answers) k (c .answered .result) ∙ inv .1, omega arith)
-
-same-length : tie.Need-same-length Inv-loop μ-loop
-same-length c = search needs
 
 returns-2 : tie.Need-returns-2 Inv-loop μ-loop
 returns-2 c =
@@ -89,14 +68,14 @@ sweep-encode-spec =
     Inv-loop
     μ-loop
     returns
-    of-requires
+    (λ c κs. search needs)
     loop-holds
-    sample-requires
-    answered-requires
-    mul-answers
-    slice-write-answers
-    add-k
+    (λ c κs. search needs)
+    (λ c κs. search needs)
+    (λ c. search needs)
+    (λ c. search needs)
+    (λ c. search needs)
     loop-less
     loop-again
-    same-length
+    (λ c. search needs)
     returns-2)

@@ -11,15 +11,6 @@ use Rattle.adpcm_ima.proofs.Bounds.{narrow-is}
 use Rattle.adpcm_ima.proofs.AdpcmImaState.decode.Statement.{statement}
 use Rattle.adpcm_ima.proofs.AdpcmImaState.decode.Tie as tie
 
-of-requires : tie.Need-of-requires
-of-requires c κs = search needs
-
-moved-requires : tie.Need-moved-requires
-moved-requires c κs = search needs
-
-narrowed-requires : tie.Need-narrowed-requires
-narrowed-requires c κs = search needs
-
 returns : tie.Need-returns
 unfolding imaSteps
 returns c =
@@ -30,4 +21,4 @@ returns c =
     (state, toZ-ofZ w16 _ f ∙ sym (ap (λ (st : State). st .predictor) (c .narrowed .ensures)))
 
 pub decode-spec : {M : Type 1} → statement M
-decode-spec = tie.close (tie.spec of-requires moved-requires narrowed-requires returns)
+decode-spec = tie.close (tie.spec (λ c κs. search needs) (λ c κs. search needs) (λ c κs. search needs) returns)

@@ -21,20 +21,8 @@ emits c =
 small : (c : tie.After-nibble) → c .nibble .result < 16
 small c = let s = c .before .before .before .args in subst (λ (n : ℕ). n < 16) (sym (emits c)) (nibble-lt (stepAt sixteen imaSteps (stateOf (s .self))) (s .self .predictor) (s .sample))
 
-of-requires : tie.Need-of-requires
-of-requires c κs = search needs
-
-nibble-requires : tie.Need-nibble-requires
-nibble-requires c κs = search needs
-
-moved-requires : tie.Need-moved-requires
-moved-requires c κs = search needs
-
 cast-t10 : tie.Need-cast-t10
 cast-t10 c = record { fits = omega (arith, small (c .before .before)) }
-
-narrowed-requires : tie.Need-narrowed-requires
-narrowed-requires c κs = search needs
 
 returns : tie.Need-returns
 unfolding imaSteps
@@ -48,4 +36,4 @@ returns c =
 pub encode-spec : {M : Type 1} → statement M
 encode-spec =
     tie.close
-    (tie.spec of-requires nibble-requires moved-requires cast-t10 narrowed-requires returns)
+    (tie.spec (λ c κs. search needs) (λ c κs. search needs) (λ c κs. search needs) cast-t10 (λ c κs. search needs) returns)

@@ -36,12 +36,6 @@ module _ (v : ℕ) (x : ℤ) where
   up : (v / 8 % 2 ≡ 1 → ⊥) → x ≡ cond (bit 8 v) (negℤ x) x
   up n = rw (ne-eqb (v / 8 % 2) 1 n) refl
 
-size-requires : tie.Need-size-requires
-size-requires c κs = search needs
-
-cast-d : tie.Need-cast-d
-cast-d c = search needs
-
 sub-result : tie.Need-sub-result
 sub-result c = fits _ (c .before .size .ensures .1)
 
@@ -62,4 +56,4 @@ returns-2 c =
     (is ∙ ap pos (h .0) ∙ up (a .nibble) (pos (d (a .s) (a .nibble))) (c .if1 .left), rw is (omega (arith, h .1)))
 
 pub change-spec : {M : Type 1} → statement M
-change-spec = tie.close (tie.spec size-requires cast-d sub-result returns returns-2)
+change-spec = tie.close (tie.spec (λ c κs. search needs) (λ c. search needs) sub-result returns returns-2)

@@ -38,27 +38,6 @@ module _ (last v : ℕ) where
       let same : suc i + 0 - 1 ≡ n = omega arith in
       rw (e, lt-ltb (v % 8) 4 (omega arith), sub-ge (suc i) 1 (omega arith), same) (sym (top last n))
 
-mul-part : tie.Need-mul-part
-mul-part c = search needs
-
-add-part : tie.Need-add-part
-add-part c = search needs
-
-part-requires : tie.Need-part-requires
-part-requires c κs = search needs
-
-cast-raised : tie.Need-cast-raised
-cast-raised c = search needs
-
-add-raised : tie.Need-add-raised
-add-raised c = search needs
-
-monus-requires : tie.Need-monus-requires
-monus-requires c κs = search needs
-
-lesser-requires : tie.Need-lesser-requires
-lesser-requires c κs = search needs
-
 returns : tie.Need-returns
 returns c =
     let s = c .before .before .before .args in
@@ -68,11 +47,11 @@ pub held-spec : {M : Type 1} → statement M
 held-spec =
     tie.close
     (tie.spec
-    mul-part
-    add-part
-    part-requires
-    cast-raised
-    add-raised
-    monus-requires
-    lesser-requires
+    (λ c. search needs)
+    (λ c. search needs)
+    (λ c κs. search needs)
+    (λ c. search needs)
+    (λ c. search needs)
+    (λ c κs. search needs)
+    (λ c κs. search needs)
     returns)

@@ -5,21 +5,6 @@ use native.Mathlib.Omega.{arith}
 use Rattle.adpcm_ima.proofs.step.magnitude.Statement.{statement}
 use Rattle.adpcm_ima.proofs.step.magnitude.Tie as tie
 
-reached-requires : tie.Need-reached-requires
-reached-requires c κs = search needs
-
-takes-requires : tie.Need-takes-requires
-takes-requires c κs = search needs
-
-add-result : tie.Need-add-result
-add-result c = search needs
-
-reached-requires-2 : tie.Need-reached-requires-2
-reached-requires-2 c κs = search needs
-
-add-result-2 : tie.Need-add-result-2
-add-result-2 c = search needs
-
 returns : tie.Need-returns
 returns c =
     let s = c .before .before .before in
@@ -31,4 +16,4 @@ returns c =
 pub magnitude-spec : {M : Type 1} → statement M
 magnitude-spec =
     tie.close
-    (tie.spec reached-requires takes-requires add-result reached-requires-2 add-result-2 returns)
+    (tie.spec (λ c κs. search needs) (λ c κs. search needs) (λ c. search needs) (λ c κs. search needs) (λ c. search needs) returns)

@@ -51,14 +51,8 @@ small c = rw (clamped c) (mag-clamp 32767 (c .before .before .args .predictor +�
 cast-sum : tie.Need-cast-sum
 cast-sum c = widens _ (c .fits .predictor)
 
-change-requires : tie.Need-change-requires
-change-requires c κs = search needs
-
 add-sum : tie.Need-add-sum
 add-sum c = fits _ (c .change .result) (c .before .fits .predictor) (c .change .ensures .1)
-
-clamp-requires : tie.Need-clamp-requires
-clamp-requires c κs = search needs
 
 cast-result : tie.Need-cast-result
 cast-result c = narrows (c .clamp .result) (small c)
@@ -75,4 +69,4 @@ returns c =
 
 pub predicted-spec : {M : Type 1} → statement M
 predicted-spec =
-    tie.close (tie.spec cast-sum change-requires add-sum clamp-requires cast-result returns)
+    tie.close (tie.spec cast-sum (λ c κs. search needs) add-sum (λ c κs. search needs) cast-result returns)

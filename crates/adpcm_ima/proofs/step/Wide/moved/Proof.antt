@@ -8,18 +8,6 @@ use Rattle.adpcm_ima.specs.Step.{stepped, stepAt}
 use Rattle.adpcm_ima.proofs.step.Wide.moved.Statement.{statement}
 use Rattle.adpcm_ima.proofs.step.Wide.moved.Tie as tie
 
-lesser-requires : tie.Need-lesser-requires
-lesser-requires c κs = search needs
-
-step-requires : tie.Need-step-requires
-step-requires c κs = search needs
-
-predicted-requires : tie.Need-predicted-requires
-predicted-requires c κs = search needs
-
-held-requires : tie.Need-held-requires
-held-requires c κs = search needs
-
 returns : tie.Need-returns
 unfolding stepped stepAt
 returns c =
@@ -30,4 +18,4 @@ returns c =
 
 pub moved-spec : {M : Type 1} → statement M
 moved-spec =
-    tie.close (tie.spec lesser-requires step-requires predicted-requires held-requires returns)
+    tie.close (tie.spec (λ c κs. search needs) (λ c κs. search needs) (λ c κs. search needs) (λ c κs. search needs) returns)

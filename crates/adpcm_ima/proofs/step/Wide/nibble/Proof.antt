@@ -11,27 +11,6 @@ use Rattle.adpcm_ima.specs.Step.{nibbleOf, stepAt, sign, greedy}
 use Rattle.adpcm_ima.proofs.step.Wide.nibble.Statement.{statement}
 use Rattle.adpcm_ima.proofs.step.Wide.nibble.Tie as tie
 
-lesser-requires : tie.Need-lesser-requires
-lesser-requires c κs = search needs
-
-step-requires : tie.Need-step-requires
-step-requires c κs = search needs
-
-difference-requires : tie.Need-difference-requires
-difference-requires c κs = search needs
-
-sign-requires : tie.Need-sign-requires
-sign-requires c κs = search needs
-
-absolute-requires : tie.Need-absolute-requires
-absolute-requires c κs = search needs
-
-magnitude-requires : tie.Need-magnitude-requires
-magnitude-requires c κs = search needs
-
-add-result : tie.Need-add-result
-add-result c = search needs
-
 returns : tie.Need-returns
 unfolding nibbleOf stepAt
 returns c =
@@ -47,11 +26,11 @@ pub nibble-spec : {M : Type 1} → statement M
 nibble-spec =
     tie.close
     (tie.spec
-    lesser-requires
-    step-requires
-    difference-requires
-    sign-requires
-    absolute-requires
-    magnitude-requires
-    add-result
+    (λ c κs. search needs)
+    (λ c κs. search needs)
+    (λ c κs. search needs)
+    (λ c κs. search needs)
+    (λ c κs. search needs)
+    (λ c κs. search needs)
+    (λ c. search needs)
     returns)
