@@ -1,4 +1,5 @@
 // One nibble of IMA ADPCM, decoded and encoded. A state goes in by value, and the next one comes back.
+mod nibble;
 mod step;
 
 pub use step::Wide;

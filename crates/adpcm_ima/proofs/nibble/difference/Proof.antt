@@ -1,4 +1,4 @@
--- `adpcm_ima::step::difference` meets its contract: in 32 bits the difference of two numbers of 16 is exact. Assumes nothing.
+-- `adpcm_ima::nibble::difference` meets its contract: in 32 bits the difference of two numbers of 16 is exact. Assumes nothing.
 use mathlib.Core.Path.{_≡_, ap₂, _∙_}
 use Prim.Native.Nat.{_<_}
 use native.Mathlib.Omega.{arith}
@@ -8,8 +8,8 @@ use mir.Syntax.{w16, w32}
 use mir.Val.{SFits, toZ, ofZ}
 use mir.ValLaws.{toZ-ofZ}
 use Rattle.num.proofs.Signed.{mag-add, mag-neg, widens, widened}
-use Rattle.adpcm_ima.proofs.step.difference.Statement.{statement}
-use Rattle.adpcm_ima.proofs.step.difference.Tie as tie
+use Rattle.adpcm_ima.proofs.nibble.difference.Statement.{statement}
+use Rattle.adpcm_ima.proofs.nibble.difference.Tie as tie
 
 module _ {a b : ℤ} (f : SFits w16 a) (g : SFits w16 b) where
   small : mag (a -ℤ b) < 131072

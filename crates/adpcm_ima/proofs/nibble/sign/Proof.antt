@@ -1,4 +1,4 @@
--- `adpcm_ima::step::sign` meets its contract: a number below 0 is one of the second kind. Assumes nothing.
+-- `adpcm_ima::nibble::sign` meets its contract: a number below 0 is one of the second kind. Assumes nothing.
 use mathlib.Core.Path.{_≡_, refl, subst}
 use mathlib.Core.Bool.{true, false}
 use native.Mathlib.Omega.{arith}
@@ -8,8 +8,8 @@ use lib.Signed.{ltZ}
 use borrow.Author.Tests.{ltb-true}
 use Rattle.num.proofs.Signed.{signed}
 use Rattle.adpcm_ima.specs.Step.{sign}
-use Rattle.adpcm_ima.proofs.step.sign.Statement.{statement}
-use Rattle.adpcm_ima.proofs.step.sign.Tie as tie
+use Rattle.adpcm_ima.proofs.nibble.sign.Statement.{statement}
+use Rattle.adpcm_ima.proofs.nibble.sign.Tie as tie
 
 below : (x : ℤ) → ltZ x (pos 0) ≡ true → 8 ≡ sign x
 below (pos n) t = absurd (omega (arith, ltb-true n 0 t))

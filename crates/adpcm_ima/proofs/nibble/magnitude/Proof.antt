@@ -1,9 +1,9 @@
--- `adpcm_ima::step::magnitude` meets its contract by the law `counted`. Assumes nothing.
+-- `adpcm_ima::nibble::magnitude` meets its contract by the law `counted`. Assumes nothing.
 use Rattle.adpcm_ima.proofs.Counted.{counted}
 use borrow.Author.Needs.{needs}
 use native.Mathlib.Omega.{arith}
-use Rattle.adpcm_ima.proofs.step.magnitude.Statement.{statement}
-use Rattle.adpcm_ima.proofs.step.magnitude.Tie as tie
+use Rattle.adpcm_ima.proofs.nibble.magnitude.Statement.{statement}
+use Rattle.adpcm_ima.proofs.nibble.magnitude.Tie as tie
 
 returns : tie.Need-returns
 returns c =

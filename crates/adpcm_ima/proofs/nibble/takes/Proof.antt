@@ -1,11 +1,11 @@
--- `adpcm_ima::step::takes` meets its contract: a remainder below the part takes nothing, and any other takes it. Assumes nothing.
+-- `adpcm_ima::nibble::takes` meets its contract: a remainder below the part takes nothing, and any other takes it. Assumes nothing.
 use mathlib.Core.Path.{_≡_, refl}
 use Prim.Native.Nat.{ℕ, _≤_, _<_}
 use native.Mathlib.Omega.{arith}
 use borrow.Author.Tests.{le-leb, lt-leb}
 use Rattle.adpcm_ima.specs.Step.{part, takes}
-use Rattle.adpcm_ima.proofs.step.takes.Statement.{statement}
-use Rattle.adpcm_ima.proofs.step.takes.Tie as tie
+use Rattle.adpcm_ima.proofs.nibble.takes.Statement.{statement}
+use Rattle.adpcm_ima.proofs.nibble.takes.Tie as tie
 
 below : (r x : ℕ) → r < x → 0 ≡ part (takes r x) 1
 below r x h = rw (lt-leb x r h) refl

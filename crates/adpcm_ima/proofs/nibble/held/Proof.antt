@@ -1,4 +1,4 @@
--- `adpcm_ima::step::held` meets its contract: what it adds is one more than the move, and it takes that one away again. Assumes nothing.
+-- `adpcm_ima::nibble::held` meets its contract: what it adds is one more than the move, and it takes that one away again. Assumes nothing.
 use mathlib.Core.Path.{_≡_, refl, sym, _∙_}
 use mathlib.Core.Bool.{Bool, true, false}
 use Prim.Native.Nat.{ℕ, zero, suc, _+_, _-_, _*_, _/_, _%_, _<_, min}
@@ -11,8 +11,8 @@ use borrow.Table.Steps.{cases}
 use Rattle.num.specs.Clamp.{clamp}
 use Rattle.num.proofs.Signed.{sub-ge}
 use Rattle.adpcm_ima.specs.Step.{bit, part, indexed}
-use Rattle.adpcm_ima.proofs.step.held.Statement.{statement}
-use Rattle.adpcm_ima.proofs.step.held.Tie as tie
+use Rattle.adpcm_ima.proofs.nibble.held.Statement.{statement}
+use Rattle.adpcm_ima.proofs.nibble.held.Tie as tie
 
 -- a number that is not negative, held at the last index
 top : (last n : ℕ) → natAbs (clamp (pos 0) (pos last) (pos n)) ≡ min n last

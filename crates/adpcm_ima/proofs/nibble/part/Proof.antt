@@ -1,8 +1,8 @@
--- `adpcm_ima::step::part` meets its contract: its test is the definition's. Assumes nothing.
+-- `adpcm_ima::nibble::part` meets its contract: its test is the definition's. Assumes nothing.
 use native.Mathlib.Omega.{arith}
 use borrow.Author.Tests.{eq-eqb, ne-eqb}
-use Rattle.adpcm_ima.proofs.step.part.Statement.{statement}
-use Rattle.adpcm_ima.proofs.step.part.Tie as tie
+use Rattle.adpcm_ima.proofs.nibble.part.Statement.{statement}
+use Rattle.adpcm_ima.proofs.nibble.part.Tie as tie
 
 returns : tie.Need-returns
 returns c = (rw (eq-eqb _ _ (c .if1 .taken)), omega arith)

@@ -1,4 +1,4 @@
--- `adpcm_ima::step::absolute` meets its contract: 0 - x where x is negative, and x itself elsewhere. Assumes nothing.
+-- `adpcm_ima::nibble::absolute` meets its contract: 0 - x where x is negative, and x itself elsewhere. Assumes nothing.
 use mathlib.Core.Path.{_≡_, refl, ap, subst}
 use mathlib.Core.Bool.{true, false}
 use native.Mathlib.Omega.{arith}
@@ -11,8 +11,8 @@ use mir.Val.{SFits, toZ, ofZ}
 use mir.ValLaws.{toZ-ofZ}
 use borrow.Author.Tests.{ltb-true}
 use Rattle.num.proofs.Signed.{signed, fits-pos, casts, cast-is}
-use Rattle.adpcm_ima.proofs.step.absolute.Statement.{statement}
-use Rattle.adpcm_ima.proofs.step.absolute.Tie as tie
+use Rattle.adpcm_ima.proofs.nibble.absolute.Statement.{statement}
+use Rattle.adpcm_ima.proofs.nibble.absolute.Tie as tie
 
 minus : (x : ℤ) → ltZ x (pos 0) ≡ true → pos 0 -ℤ x ≡ pos (natAbs x)
 minus (pos n) t = absurd (omega (arith, ltb-true n 0 t))

@@ -1,4 +1,4 @@
--- `adpcm_ima::step::predicted` meets its contract: the sum is exact in 32 bits, and what is clamped fits 16. Assumes nothing.
+-- `adpcm_ima::nibble::predicted` meets its contract: the sum is exact in 32 bits, and what is clamped fits 16. Assumes nothing.
 use mathlib.Core.Path.{_≡_, refl, ap, ap₂, _∙_}
 use mathlib.Core.Bool.{Bool, true, false, cond}
 use Prim.Native.Nat.{_≤_}
@@ -13,8 +13,8 @@ use Rattle.num.specs.Clamp.{clamp}
 use Rattle.num.proofs.Within.{mag-clamp}
 use Rattle.num.proofs.Signed.{mag-add, widens, widened}
 use Rattle.adpcm_ima.specs.Step.{predicted, bit, d}
-use Rattle.adpcm_ima.proofs.step.predicted.Statement.{statement}
-use Rattle.adpcm_ima.proofs.step.predicted.Tie as tie
+use Rattle.adpcm_ima.proofs.nibble.predicted.Statement.{statement}
+use Rattle.adpcm_ima.proofs.nibble.predicted.Tie as tie
 
 module _ (p x : ℤ) (f : SFits w16 p) (h : mag x ≤ 131072) where
   exact : toZ w32 (ofZ w32 (toZ w16 (ofZ w16 p))) +ℤ toZ w32 (ofZ w32 x) ≡ p +ℤ x

@@ -1,11 +1,11 @@
--- `adpcm_ima::step::size` meets its contract: each part is the definition's. Assumes nothing.
+-- `adpcm_ima::nibble::size` meets its contract: each part is the definition's. Assumes nothing.
 use mathlib.Core.Path.{_≡_, refl}
 use Prim.Native.Nat.{_/_}
 use native.Mathlib.Omega.{arith}
 use borrow.Author.Needs.{needs}
 use Rattle.adpcm_ima.specs.Step.{m}
-use Rattle.adpcm_ima.proofs.step.size.Statement.{statement}
-use Rattle.adpcm_ima.proofs.step.size.Tie as tie
+use Rattle.adpcm_ima.proofs.nibble.size.Statement.{statement}
+use Rattle.adpcm_ima.proofs.nibble.size.Tie as tie
 
 returns : tie.Need-returns
 unfolding m

@@ -1,4 +1,4 @@
--- `adpcm_ima::step::change` meets its contract: 0 - d is d negated. Assumes nothing.
+-- `adpcm_ima::nibble::change` meets its contract: 0 - d is d negated. Assumes nothing.
 use mathlib.Core.Path.{_≡_, refl, ap, _∙_}
 use mathlib.Core.Bool.{cond}
 use Prim.Native.Nat.{ℕ, _/_, _%_, _≤_, _<_}
@@ -12,8 +12,8 @@ use borrow.Author.Needs.{needs}
 use borrow.Author.Tests.{eq-eqb, ne-eqb}
 use Rattle.num.proofs.Signed.{mag-neg}
 use Rattle.adpcm_ima.specs.Step.{bit, d}
-use Rattle.adpcm_ima.proofs.step.change.Statement.{statement}
-use Rattle.adpcm_ima.proofs.step.change.Tie as tie
+use Rattle.adpcm_ima.proofs.nibble.change.Statement.{statement}
+use Rattle.adpcm_ima.proofs.nibble.change.Tie as tie
 
 module _ (n : ℕ) (h : n < 131072) where
   plus : toZ w32 n ≡ pos n
