@@ -9,6 +9,7 @@ use crate::nibble::sign;
 use crate::nibble::step;
 use num::lesser;
 ghost use mathlib.Core.Path.{_≡_};
+ghost use Prim.Native.Nat.{_<_};
 ghost use Rattle.adpcm_ima.specs.Step.{sixteen, stepped, emitted};
 ghost use Rattle.adpcm_ima.specs.View.{stateOf, wideOf, narrow};
 
@@ -52,7 +53,7 @@ impl Wide {
     }
 
     pub fn nibble(self, steps: &[u16; 89], sample: i16) -> u32
-        ensures { λ r. ⌜ r ≡ emitted sixteen (now (steps .entry)) (wideOf self) sample ⌝ }
+        ensures { λ r. ⌜ (r ≡ emitted sixteen (now (steps .entry)) (wideOf self) sample) × (r < 16) ⌝ }
     {
         let s = step(steps, lesser(self.index, 88));
         let x = difference(self.predictor, sample);

@@ -18,12 +18,11 @@ use borrow.Table.Steps.{cases}
 pub sub-ge : (a b : ℕ) → b ≤ a → subℕ a b ≡ pos (a - b)
 sub-ge a b h = rw (le-ltb a b h)
 
--- -1 less a negative number is its complement
-pub complement : (x : ℤ) → ltZ x (pos 0) ≡ true → negsuc 0 -ℤ x ≡ pos (mag x)
-complement (pos n) t = absurd (omega (arith, ltb-true n 0 t))
-complement (negsuc n) t = sub-ge (suc n) 1 (omega arith) ∙ ap pos (omega arith)
+-- a number by its sign: mag is n both of n and of -(n + 1)
+pub negative : (x : ℤ) → ltZ x (pos 0) ≡ true → x ≡ negsuc (mag x)
+negative (pos n) t = absurd (omega (arith, ltb-true n 0 t))
+negative (negsuc n) t = refl
 
--- a number that is not negative is its own magnitude
 pub positive : (x : ℤ) → ltZ x (pos 0) ≡ false → x ≡ pos (mag x)
 positive (pos n) t = refl
 positive (negsuc n) t = absurd (subst T t tt)
@@ -62,6 +61,17 @@ compared {w} {a} {b} f g t = sym (ap₂ ltZ (toZ-ofZ w a f) (toZ-ofZ w b g)) ∙
 
 pub signed : {w : Width} {x : ℤ} {is : Bool} → SFits w x → ltZ (toZ w (ofZ w x)) (pos 0) ≡ is → ltZ x (pos 0) ≡ is
 signed {w} {x} f t = sym (ap (λ (z : ℤ). ltZ z (pos 0)) (toZ-ofZ w x f)) ∙ t
+
+-- a number that 16 bits hold, narrowed from 32
+module _ (x : ℤ) (h : mag x ≤ 32767) where
+  reads : toZ w32 (ofZ w32 x) ≡ x
+  reads = toZ-ofZ w32 x (record { sfits = omega arith })
+
+  pub narrows : SFits w16 (toZ w32 (ofZ w32 x))
+  narrows = rw reads (record { sfits = omega arith })
+
+  pub narrowed : toZ w16 (ofZ w16 (toZ w32 (ofZ w32 x))) ≡ x
+  narrowed = toZ-ofZ w16 _ narrows ∙ reads
 
 -- a number that is known to be at least 0, cast to an unsigned one
 module _ (w : Width) (x : ℤ) (n : ℕ) (e : x ≡ pos n) (h : n < 2 ^ hbits w) where

@@ -1,32 +1,27 @@
 -- `sweep::answered` meets its contract: the nibble and the next state are the encoder's, and each has its place in the number. Assumes nothing.
-use mathlib.Core.Path.{_≡_, sym, ap, _∙_, subst}
-use Prim.Native.Nat.{ℕ, _+_, _*_, _<_}
+use mathlib.Core.Path.{_≡_, ap, _∙_}
+use Prim.Native.Nat.{ℕ, _+_, _*_}
 use native.Mathlib.Omega.{arith}
 use lib.IntN.{ℤ, pos, natAbs, _+ℤ_}
 use mir.Syntax.{w16}
 use mir.Val.{SFits}
 use mir.ValLaws.{toZ-ofZ}
 use borrow.Author.Needs.{needs}
-use Rattle.adpcm_ima.specs.Step.{sixteen, stepAt, stepped, emitted}
+use Rattle.adpcm_ima.specs.Step.{sixteen, stepped, emitted}
 use Rattle.adpcm_ima.specs.View.{wideOf, narrow}
-use Rattle.adpcm_ima.proofs.Bounds.{nibble-lt, narrow-is}
+use Rattle.adpcm_ima.proofs.Bounds.{narrow-is}
 use Rattle.sweep.specs.Answers.{packed, answerOf}
 use Rattle.sweep.proofs.answered.Statement.{statement}
 use Rattle.sweep.proofs.answered.Tie as tie
 
 emits : (c : tie.After-nibble) → c .nibble .result ≡ emitted sixteen (c .before .args .steps .now) (wideOf (c .before .args .wide)) (c .before .args .x)
-emits c = c .nibble .ensures ∙ ap (emitted sixteen (c .before .args .steps .now) (wideOf (c .before .args .wide))) (toZ-ofZ w16 _ (c .before .fits .x))
-
-small : (c : tie.After-nibble) → c .nibble .result < 16
-small c =
-    let a = c .before .args in
-    subst (λ (n : ℕ). n < 16) (sym (emits c)) (nibble-lt (stepAt sixteen (a .steps .now) (wideOf (a .wide))) (a .wide .predictor) (a .x))
+emits c = c .nibble .ensures .0 ∙ ap (emitted sixteen (c .before .args .steps .now) (wideOf (c .before .args .wide))) (toZ-ofZ w16 _ (c .before .fits .x))
 
 add-result : tie.Need-add-result
-add-result c = record { fits = omega (arith, small (c .before .before .before), c .struct-known .given) }
+add-result c = record { fits = omega (arith, c .before .before .before .nibble .ensures .1, c .struct-known .given) }
 
 add-result-2 : tie.Need-add-result-2
-add-result-2 c = record { fits = omega (arith, small (c .before .before .before .before .before), c .biased .ensures .1, c .before .before .struct-known .given) }
+add-result-2 c = record { fits = omega (arith, c .before .before .before .before .before .nibble .ensures .1, c .biased .ensures .1, c .before .before .struct-known .given) }
 
 returns : tie.Need-returns
 unfolding answerOf

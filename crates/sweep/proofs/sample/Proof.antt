@@ -5,12 +5,13 @@ use native.Mathlib.Omega.{arith}
 use lib.Dec.{ltb}
 use lib.IntN.{ℤ, pos, subℕ, _-ℤ_}
 use lib.Signed.{mag}
-use mir.Syntax.{w16, w32}
-use mir.Val.{SFits, toZ, ofZ}
-use mir.ValLaws.{toZ-ofZ, toZ-pos}
+use mir.Syntax.{w32}
+use mir.Val.{SFits, toZ}
+use mir.ValLaws.{toZ-pos}
 use borrow.Author.Needs.{needs}
 use borrow.Author.Tests.{ltb-true, ltb-false}
 use borrow.Table.Steps.{cases}
+use Rattle.num.proofs.Signed.{narrows, narrowed}
 use Rattle.sweep.proofs.sample.Statement.{statement}
 use Rattle.sweep.proofs.sample.Tie as tie
 
@@ -27,20 +28,17 @@ module _ (k : ℕ) (h : k < 65536) where
   fits : SFits w32 (toZ w32 k -ℤ pos 32768)
   fits = rw exact (record { sfits = omega (arith, small) })
 
-  reads : toZ w32 (ofZ w32 (toZ w32 k -ℤ pos 32768)) ≡ subℕ k 32768
-  reads = toZ-ofZ w32 _ fits ∙ exact
-
-  narrows : SFits w16 (toZ w32 (ofZ w32 (toZ w32 k -ℤ pos 32768)))
-  narrows = rw reads (record { sfits = omega (arith, small) })
+  held : mag (toZ w32 k -ℤ pos 32768) ≤ 32767
+  held = rw exact small
 
 sub-result : tie.Need-sub-result
 sub-result c = fits (c .args .k) (c .pre)
 
 cast-result-2 : tie.Need-cast-result-2
-cast-result-2 c = narrows (c .args .k) (c .pre)
+cast-result-2 c = narrows (toZ w32 (c .args .k) -ℤ pos 32768) (held (c .args .k) (c .pre))
 
 returns : tie.Need-returns
-returns c = toZ-ofZ w16 _ (narrows (c .args .k) (c .pre)) ∙ reads (c .args .k) (c .pre)
+returns c = narrowed (toZ w32 (c .args .k) -ℤ pos 32768) (held (c .args .k) (c .pre)) ∙ exact (c .args .k) (c .pre)
 
 pub sample-spec : {M : Type 1} → statement M
 sample-spec = tie.close (tie.spec (λ c. search needs) sub-result cast-result-2 returns)

@@ -11,7 +11,7 @@ use mir.ValLaws.{toZ-ofZ}
 use borrow.Author.Needs.{needs}
 use Rattle.num.specs.Clamp.{clamp}
 use Rattle.num.proofs.Within.{mag-clamp}
-use Rattle.num.proofs.Signed.{mag-add, widens, widened}
+use Rattle.num.proofs.Signed.{mag-add, widens, widened, narrows, narrowed}
 use Rattle.adpcm_ima.specs.Step.{predicted, bit, d}
 use Rattle.adpcm_ima.proofs.nibble.predicted.Statement.{statement}
 use Rattle.adpcm_ima.proofs.nibble.predicted.Tie as tie
@@ -22,14 +22,6 @@ module _ (p x : ℤ) (f : SFits w16 p) (h : mag x ≤ 131072) where
 
   fits : SFits w32 (toZ w32 (ofZ w32 (toZ w16 (ofZ w16 p))) +ℤ toZ w32 (ofZ w32 x))
   fits = rw exact (record { sfits = let k = mag-add p x in omega (arith, f .sfits) })
-
--- what was clamped is read back from 32 bits, and from 16
-module _ (r : ℤ) (h : mag r ≤ 32767) where
-  reads : toZ w32 (ofZ w32 r) ≡ r
-  reads = toZ-ofZ w32 r (record { sfits = omega arith })
-
-  narrows : SFits w16 (toZ w32 (ofZ w32 r))
-  narrows = rw reads (record { sfits = omega arith })
 
 -- adding d negated is subtracting it
 either : (p x : ℤ) (is : Bool) → p +ℤ cond is (negℤ x) x ≡ cond is (p -ℤ x) (p +ℤ x)
@@ -62,8 +54,7 @@ unfolding predicted
 returns c =
     let a = c .before .before .args in
     let n = pos (d (a .s) (a .nibble)) in
-    toZ-ofZ w16 _ (narrows (c .clamp .result) (small c))
-    ∙ reads (c .clamp .result) (small c)
+    narrowed (c .clamp .result) (small c)
     ∙ clamped c
     ∙ ap (clamp (negsuc 32767) (pos 32767)) (ap (λ (x : ℤ). a .predictor +ℤ x) (c .before .change .ensures .0) ∙ either (a .predictor) n (bit 8 (a .nibble)))
 
