@@ -5,7 +5,7 @@ use Prim.Native.Nat.{ℕ, _%_, _≤_, _<_}
 use native.Mathlib.Omega.{arith}
 use lib.IntN.{ℤ, pos, negsuc, natAbs, _+ℤ_, _-ℤ_}
 use Rattle.num.proofs.Within.{clamp-le}
-use Rattle.adpcm_ima.specs.Step.{State, sixteen, lowered, sign, nibbleOf, move, indexed, stepped}
+use Rattle.adpcm_ima.specs.Step.{State, Limits, sixteen, lowered, sign, nibbleOf, move, indexed, stepped}
 use Rattle.adpcm_ima.specs.View.{narrow}
 use Rattle.adpcm_ima.proofs.Parts.{greedy-lt}
 
@@ -23,10 +23,17 @@ pub index-le : (last i v : ℕ) → indexed last i v ≤ last
 unfolding indexed
 index-le last i v = clamp-le last (pos i +ℤ move v)
 
--- so nothing of it is lost in a state's eight bits
-pub narrow-is : (steps : List ℕ) (st : State) (v : ℕ) → narrow (stepped sixteen steps st v) ≡ stepped sixteen steps st v
+-- and so is a state's
+pub held : (limits : Limits) (steps : List ℕ) (st : State) (v : ℕ) → stepped limits steps st v .index ≤ limits .last
 unfolding stepped
-narrow-is steps st v =
-    let h = index-le 88 (lowered sixteen (st .index)) v in
-    let same : indexed 88 (lowered sixteen (st .index)) v % 256 ≡ indexed 88 (lowered sixteen (st .index)) v = omega arith in
-    rw same refl
+held limits steps st v = index-le (limits .last) (lowered limits (st .index)) v
+
+pub moved-lt : (steps : List ℕ) (st next : State) (v : ℕ) → next ≡ stepped sixteen steps st v → next .index < 256
+moved-lt steps st next v e = rw e (omega (arith, held sixteen steps st v))
+
+-- so nothing of it is lost in a state's eight bits
+pub narrow-below : (st : State) → st .index < 256 → narrow st ≡ st
+narrow-below st h = let same : st .index % 256 ≡ st .index = omega arith in rw same refl
+
+pub narrow-is : (steps : List ℕ) (st : State) (v : ℕ) → narrow (stepped sixteen steps st v) ≡ stepped sixteen steps st v
+narrow-is steps st v = narrow-below (stepped sixteen steps st v) (moved-lt steps st (stepped sixteen steps st v) v refl)

@@ -3,3 +3,4 @@ pub mod Counted
 pub mod Parts
 pub mod Reach
 pub mod Rising
+pub mod Series

@@ -1,3 +1,4 @@
+pub mod Series
 pub mod Step
 pub mod Table
 pub mod View

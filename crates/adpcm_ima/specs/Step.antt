@@ -2,11 +2,11 @@
 -- All is given over a table of steps and the limits of the two numbers; `sixteen` has the limits of the 16-bit codec. Assumes nothing.
 use mathlib.Core.Bool.{Bool, not, cond, _&&_}
 use mathlib.Core.List.{List}
-use Prim.Native.Nat.{ℕ, _+_, _-_, _*_, _/_, _%_, min}
+use Prim.Native.Nat.{ℕ, _+_, _-_, _*_, _/_, _%_, _≤_, min}
 use lib.Dec.{ltb, leb, eqb}
 use lib.IntN.{ℤ, pos, negsuc, natAbs, _+ℤ_, _-ℤ_}
 use lib.ListN.{getD}
-use lib.Signed.{ltZ, leZ}
+use lib.Signed.{ltZ, leZ, _≤ℤ_}
 use Rattle.num.specs.Clamp.{clamp}
 
 pub record State : Type 0 where
@@ -24,6 +24,15 @@ pub record Limits : Type 0 where
 
 abbrev pub sixteen : Limits
 sixteen = record { lowest = negsuc 32767; highest = pos 32767; last = 88 }
+
+-- A number between the predictor's limits, and a state whose two numbers are held.
+pub record In (limits : Limits) (x : ℤ) : Type 0 where
+  pub above : limits .lowest ≤ℤ x
+  pub below : x ≤ℤ limits .highest
+
+pub record Good (limits : Limits) (st : State) : Type 0 where
+  pub inside : In limits (st .predictor)
+  pub held : st .index ≤ limits .last
 
 -- First the index is lowered to 88 if above.
 abbrev pub lowered : Limits → ℕ → ℕ

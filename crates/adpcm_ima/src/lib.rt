@@ -5,7 +5,7 @@ mod step;
 pub use step::Wide;
 ghost use mathlib.Core.Path.{_≡_};
 ghost use lib.IntN.{pos};
-ghost use Rattle.adpcm_ima.specs.Step.{sixteen, stepped, emitted};
+ghost use Rattle.adpcm_ima.specs.Step.{state, sixteen, stepped, emitted};
 ghost use Rattle.adpcm_ima.specs.Table.{imaSteps};
 ghost use Rattle.adpcm_ima.specs.View.{stateOf, sameState};
 
@@ -124,6 +124,16 @@ impl AdpcmImaState {
         Self {
             predictor: 0,
             step_index: 0,
+        }
+    }
+
+    // The two numbers of a block's header in place of the state's own.
+    pub fn reloaded(self, predictor: i16, step_index: u8) -> Self
+        ensures { λ r. ⌜ stateOf r ≡ state predictor «step_index» ⌝ }
+    {
+        Self {
+            predictor,
+            step_index,
         }
     }
 

@@ -6,7 +6,11 @@ use Prim.Native.Nat.{ℕ, zero, suc, _+_, _-_, _<_}
 use native.Mathlib.Omega.{arith}
 use lib.ListN.{length, getD, set, take}
 use lib.Seq.{take-suc-set, take-all}
-use Rattle.num.specs.Lists.{from}
+use Rattle.num.specs.Lists.{from, All}
+
+pub all-split : {X : Type 0} (P : X → Type 0) (xs ys : List X) → All P (xs ++ ys) → All P xs × All P ys
+all-split P [] ys h = (tt, h)
+all-split P (x ∷ xs) ys (h, k) = let (l, r) = all-split P xs ys k in ((h, l), r)
 
 module _ {X : Type 0} (f : ℕ → X) where
   pub length-from : (n i : ℕ) → length (from n i f) ≡ n

@@ -1,10 +1,11 @@
--- A clamped number lies between its limits, and how large it can be then. Assumes nothing.
+-- A clamped number lies between its limits, how large it can be then, and on which side of another it stays. Assumes nothing.
 use Prim.Native.Nat.{ℕ, _≤_, zero-le}
 use lib.Dec.{leb→le, le→leb}
 use lib.IntN.{ℤ, pos, negsuc, natAbs}
-use lib.Signed.{mag, ltZ, _≤ℤ_, ltZ-no, ≤ℤ-refl}
+use lib.Signed.{mag, ltZ, _≤ℤ_, ltZ-yes, ltZ-no, ≤ℤ-refl, clashℤ}
 use borrow.Table.Steps.{cases}
 use Rattle.num.specs.Clamp.{clamp}
+use Rattle.num.proofs.Shift.{≤ℤ-trans}
 
 pub clamp-within : {a b : ℤ} → a ≤ℤ b → (x : ℤ) → (a ≤ℤ clamp a b x) × (clamp a b x ≤ℤ b)
 clamp-within {a} {b} h x =
@@ -27,3 +28,17 @@ clamp-le n x = let (l, h) = clamp-within {a = pos 0} {b = pos n} (record { le = 
     small : (z : ℤ) → pos 0 ≤ℤ z → z ≤ℤ pos n → natAbs z ≤ n
     small (pos a) l h = leb→le a n (h .le)
     small (negsuc a) l h = absurd (l .le)
+
+-- a number between the limits that is at least x, or at most x, is so of x clamped
+module _ {a b p : ℤ} (l : a ≤ℤ p) (h : p ≤ℤ b) where
+  pub clamp-under : (x : ℤ) → x ≤ℤ p → clamp a b x ≤ℤ p
+  clamp-under x k =
+      cases (ltZ x a)
+      (λ e. rw e l)
+      (λ e. rw e (cases (ltZ b x) (λ f. clashℤ (ltZ-yes {a = b} (rw f tt)) (≤ℤ-trans k h)) (λ f. rw f k)))
+
+  pub clamp-over : (x : ℤ) → p ≤ℤ x → p ≤ℤ clamp a b x
+  clamp-over x k =
+      cases (ltZ x a)
+      (λ e. clashℤ (ltZ-yes {a = x} (rw e tt)) (≤ℤ-trans l k))
+      (λ e. rw e (cases (ltZ b x) (λ f. rw f h) (λ f. rw f k)))

@@ -1,8 +1,11 @@
 // The static library: the C interface, each function with its whole contract.
 use adpcm_ima::AdpcmImaState;
+use ima4::decode_adpcm_ima_ima4_run;
+use ima4::encode_adpcm_ima_ima4_run;
 ghost use mathlib.Core.Path.{_≡_};
 ghost use Rattle.adpcm_ima.specs.Step.{state, sixteen, stepped, emitted};
 ghost use Rattle.adpcm_ima.specs.Table.{imaSteps};
+ghost use Rattle.ima4.specs.Call.{answered, decodeRun, encodeRun};
 ghost use Rattle.g711.specs.Law.{mu-law, A-law, sampleOf, codeOf};
 
 #[no_mangle]
@@ -62,4 +65,45 @@ pub extern "C" fn spr_encode_adpcm_ima(sample: i16, predictor: &mut i16, step_in
     *predictor = next;
     *step_index = encoded.state.step_index;
     encoded.nibble
+}
+
+// A run of blocks. Lengths that do not fit are refused by 3, and then nothing is written.
+#[no_mangle]
+pub extern "C" fn spr_decode_ima4(
+    bytes: &[u8],
+    predictor: &mut i16,
+    step_index: &mut u8,
+    samples: &mut [i16],
+) -> u8
+    ensures { λ r. ⌜ answered r (state (now (predictor .exit)) (now («step_index» .exit))) (now (samples .exit)) ≡ decodeRun (state (now (predictor .entry)) (now («step_index» .entry))) (now (bytes .entry)) (now (samples .entry)) ⌝ }
+{
+    let before = AdpcmImaState {
+        predictor: *predictor,
+        step_index: *step_index,
+    };
+    let answer = decode_adpcm_ima_ima4_run(bytes, before, samples);
+    let next = answer.state.predictor;
+    *predictor = next;
+    *step_index = answer.state.step_index;
+    answer.refusal
+}
+
+#[no_mangle]
+pub extern "C" fn spr_encode_ima4(
+    samples: &[i16],
+    predictor: &mut i16,
+    step_index: &mut u8,
+    bytes: &mut [u8],
+) -> u8
+    ensures { λ r. ⌜ answered r (state (now (predictor .exit)) (now («step_index» .exit))) (now (bytes .exit)) ≡ encodeRun (state (now (predictor .entry)) (now («step_index» .entry))) (now (samples .entry)) (now (bytes .entry)) ⌝ }
+{
+    let before = AdpcmImaState {
+        predictor: *predictor,
+        step_index: *step_index,
+    };
+    let answer = encode_adpcm_ima_ima4_run(samples, before, bytes);
+    let next = answer.state.predictor;
+    *predictor = next;
+    *step_index = answer.state.step_index;
+    answer.refusal
 }

@@ -1,5 +1,5 @@
 -- `num::from_halves` meets its contract: each arm is the case of the definition that its test says. Assumes nothing.
-use mathlib.Core.Path.{_≡_, _∙_}
+use mathlib.Core.Path.{_≡_, refl, _∙_}
 use Prim.Native.Nat.{ℕ, _+_, _-_, _*_, _<_}
 use native.Mathlib.Omega.{arith}
 use lib.IntN.{pos, negsuc, _-ℤ_}
@@ -44,12 +44,12 @@ sub-result-2 : tie.Need-sub-result-2
 sub-result-2 c = fits _ (complement-lt c)
 
 returns : tie.Need-returns
-returns c = rw (lt-ltb (c .before .args .high) 128 (c .if1 .taken)) (low _ (omega arith))
+returns c = rw (lt-ltb (c .before .args .high * 256 + c .before .args .low) 32768 (omega arith)) refl
 
 returns-2 : tie.Need-returns-2
 returns-2 c =
     let h = complement-lt c in
-    rw (le-ltb (c .before .args .high) 128 (c .if1 .left)) (toZ-ofZ w16 _ (fits _ h) ∙ high _ h)
+    rw (le-ltb (c .before .args .high * 256 + c .before .args .low) 32768 (omega arith)) (toZ-ofZ w16 _ (fits _ h) ∙ high _ h)
 
 pub from-halves-spec : {M : Type 1} → statement M
 from-halves-spec =

@@ -1,0 +1,5 @@
+pub mod Cut
+pub mod Lengths
+pub mod Round
+pub mod Theorems
+pub mod Turn
