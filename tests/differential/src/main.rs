@@ -6,16 +6,21 @@
 //! A number after the word has it do no more than so many chunks of the long part, to try it.
 
 mod adpcm_ima;
+mod blocks;
 mod exhaustive;
 mod ffi;
 mod g711;
+mod ima4;
 mod ledger;
 mod nibble;
+mod outcome;
 mod packed;
 mod parallel;
 mod places;
 mod progress;
 mod report;
+mod runs;
+mod signal;
 mod sweep;
 
 use report::Report;
@@ -37,6 +42,7 @@ fn main() -> ExitCode {
     // each family of calls adds its reports
     let mut reports = g711::reports(chunks.is_some());
     reports.extend(adpcm_ima::reports(chunks.is_some()));
+    reports.extend(ima4::reports(chunks.is_some()));
     reports.extend(chunks.map(exhaustive::encode));
     verdict(&reports)
 }
