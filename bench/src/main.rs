@@ -1,12 +1,18 @@
-//! Times each call of the proved library and the oracle's, and prints a Markdown table. What it is
-//! doing goes to standard error, so that standard output can go to a file.
+//! Times each call of the proved library and the oracle's, and prints Markdown tables: of the calls for
+//! one value, and of those for a run of blocks. What it is doing goes to standard error, so that
+//! standard output can go to a file.
 
 mod adpcm_ima;
+#[path = "../../tests/differential/src/blocks.rs"]
+mod blocks;
 #[path = "../../tests/differential/src/ffi.rs"]
 mod ffi;
 mod g711;
+mod ima4;
 #[path = "../../tests/differential/src/nibble.rs"]
 mod nibble;
+#[path = "../../tests/differential/src/signal.rs"]
+mod signal;
 mod timing;
 
 fn main() {
@@ -15,11 +21,16 @@ fn main() {
     } else {
         "release build"
     };
-    println!(
-        "{}, {build}; nanoseconds a call, the best of {} runs.",
-        std::env::consts::ARCH,
-        timing::RUNS
-    );
+    let machine = std::env::consts::ARCH;
+    println!("{machine}, {build}.");
+    println!();
+    values();
+    println!();
+    runs();
+}
+
+fn values() {
+    println!("Nanoseconds a call, the best of {} runs.", timing::RUNS);
     println!();
     println!("| call | ours | Rust | ours / Rust | Rust behind a call |");
     println!("|---|---:|---:|---:|---:|");
@@ -39,4 +50,26 @@ fn main() {
         "The loop itself, with no call in it, takes {:.2} of each.",
         timing::loop_alone()
     );
+}
+
+fn runs() {
+    println!(
+        "Nanoseconds a sample, the best of {} runs over {} blocks.",
+        ima4::RUNS,
+        ima4::BLOCKS
+    );
+    println!();
+    println!("| call | samples | blocks a call | ours | Rust | ours / Rust |");
+    println!("|---|---|---:|---:|---:|---:|");
+    for row in ima4::rows() {
+        println!(
+            "| {} | {} | {} | {:.2} | {:.2} | {:.2} |",
+            row.call,
+            row.content,
+            row.blocks,
+            row.ours,
+            row.rust,
+            row.ours / row.rust
+        );
+    }
 }
