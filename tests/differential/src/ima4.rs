@@ -1,8 +1,11 @@
-//! Runs of ima4 blocks.
+//! Runs of ima4 blocks. There is no end of them, so what a difference could hang on is gone over one by
+//! one: the headers and the states, and what the samples are like.
 
 use crate::report::Report;
-use crate::runs;
+use crate::{headers, runs};
 
 pub fn reports(progress: bool) -> Vec<Report> {
-    runs::reports(progress).into()
+    let mut reports = vec![headers::decode(progress), headers::encode(progress)];
+    reports.extend(runs::reports(progress));
+    reports
 }

@@ -10,6 +10,7 @@ mod blocks;
 mod exhaustive;
 mod ffi;
 mod g711;
+mod headers;
 mod ima4;
 mod ledger;
 mod nibble;
