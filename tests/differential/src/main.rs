@@ -13,6 +13,7 @@ mod g711;
 mod headers;
 mod ima4;
 mod ledger;
+mod lengths;
 mod nibble;
 mod outcome;
 mod packed;
