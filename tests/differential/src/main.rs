@@ -7,6 +7,7 @@
 
 mod adpcm_ima;
 mod blocks;
+mod cuts;
 mod exhaustive;
 mod ffi;
 mod g711;
