@@ -4,8 +4,13 @@
 //!
 //! A family of calls has one function here, which `main` calls; a call has one number, for good.
 
+#[path = "../differential/src/signal.rs"]
+mod signal;
+
 use audio_codec_algorithms::{decode_adpcm_ima, encode_adpcm_ima, AdpcmImaState};
+use audio_codec_algorithms::{decode_adpcm_ima_ima4, encode_adpcm_ima_ima4};
 use audio_codec_algorithms::{decode_alaw, decode_ulaw, encode_alaw, encode_ulaw};
+use signal::{noise, speech};
 use std::collections::BTreeSet;
 
 const HEAD: &str = "\
@@ -19,6 +24,7 @@ fn main() {
     println!("{HEAD}");
     g711();
     adpcm_ima();
+    ima4();
 }
 
 /// The two laws: all codes, and the samples where the code changes.
@@ -130,6 +136,95 @@ fn encode(sample: i16, state: (i16, u8)) -> (u8, (i16, u8)) {
     (nibble, next)
 }
 
+/// Blocks of ima4, each by itself, and two of speech that follow each other.
+fn ima4() {
+    title("07 decode_adpcm_ima_ima4: predictor, index, 34 bytes, 64 samples, next predictor, next index");
+    title("the numbers that the scope names");
+    assert_eq!(decode_block(&[0; 34], (100, 0)).0, [100; 64]);
+    assert_eq!(decode_block(&[0; 34], (127, 0)).0, [127; 64]);
+    assert_eq!(decode_block(&[0; 34], (128, 0)).0, [0; 64]);
+    assert_eq!(decode_block(&[0; 34], (-128, 0)).0, [0; 64]);
+    kept_or_not();
+    title("clipped, both ways");
+    decode_block(&[0x77; 34], (0, 0));
+    decode_block(&[0xff; 34], (-100, 88));
+
+    title("08 encode_adpcm_ima_ima4: predictor, index, 64 samples, 34 bytes, next predictor, next index");
+    title("speech, two blocks in a row");
+    let speech = speech(1, 128);
+    let (first, state) = encode_block(&speech[..64], (0, 0));
+    let (second, _) = encode_block(&speech[64..], state);
+    title("from other states, speech and full-scale noise, and silence");
+    for state in [(0, 88), (0, 200), (i16::MIN, 0), (i16::MAX, 255)] {
+        encode_block(&speech[..64], state);
+        encode_block(&noise(1, 64), state);
+    }
+    encode_block(&[0; 64], (-12345, 44));
+
+    title("07 again, on what 08 gave: the second block from the state that the first left, and from zero");
+    let (_, carried) = decode_block(&first, (0, 0));
+    assert_eq!(carried, state);
+    let samples = decode_block(&second, carried).0;
+    assert_ne!(samples, decode_block(&second, (0, 0)).0);
+}
+
+/// The decoder keeps its state when the index is the header's and the predictor is near the header's.
+fn kept_or_not() {
+    title("header 4736 and 44, at both sides of the limits, and from another index");
+    for away in [-128, -127, 127, 128] {
+        decode_block(&block(0x12ac), (4736 + away, 44));
+    }
+    decode_block(&block(0x12ac), (4741, 43));
+    decode_block(&block(0x12ac), (4741, 45));
+    title("the header's index, 127, is lowered to 88, and the decoder's own is not");
+    decode_block(&block(0x12ff), (4741, 88));
+    decode_block(&block(0x12ff), (4741, 127));
+    title("72 is what an index of 200 would be without its highest bit");
+    decode_block(&block(0x12c8), (4741, 72));
+    decode_block(&block(0x12c8), (4741, 200));
+    title("headers at the ends: -32768 and 32640");
+    decode_block(&block(0x8000), (-32641, 0));
+    decode_block(&block(0x8000), (-32640, 0));
+    decode_block(&block(0x7f80), (32767, 0));
+    decode_block(&block(0x7f80), (32512, 0));
+}
+
+/// That header, and a body with every nibble in it. It starts with small steps, so that what the block
+/// starts from is seen.
+fn block(header: u16) -> [u8; 34] {
+    let mut block = [0; 34];
+    block[..2].copy_from_slice(&header.to_be_bytes());
+    for (k, byte) in block[2..].iter_mut().enumerate() {
+        *byte = (k * 171) as u8;
+    }
+    block
+}
+
+/// Prints the line of a block to decode.
+fn decode_block(block: &[u8; 34], state: (i16, u8)) -> ([i16; 64], (i16, u8)) {
+    let mut next = of(state);
+    let mut samples = [0; 64];
+    decode_adpcm_ima_ima4(block, &mut next, &mut samples);
+    let next = (next.predictor, next.step_index);
+    let input = [&bytes(state), &block[..]].concat();
+    let answer = [&all_bytes(&samples), &bytes(next)[..]].concat();
+    line(0x07, &input, &answer);
+    (samples, next)
+}
+
+/// Prints the line of a block to encode.
+fn encode_block(samples: &[i16], state: (i16, u8)) -> ([u8; 34], (i16, u8)) {
+    let mut next = of(state);
+    let mut block = [0; 34];
+    let samples = samples.try_into().expect("a block has 64 samples");
+    encode_adpcm_ima_ima4(samples, &mut next, &mut block);
+    let next = (next.predictor, next.step_index);
+    let input = [&bytes(state), &all_bytes(samples)[..]].concat();
+    let answer = [&block, &bytes(next)[..]].concat();
+    line(0x08, &input, &answer);
+    (block, next)
+}
+
 fn of((predictor, step_index): (i16, u8)) -> AdpcmImaState {
     AdpcmImaState {
         predictor,
@@ -140,6 +235,11 @@ fn of((predictor, step_index): (i16, u8)) -> AdpcmImaState {
 fn bytes((predictor, index): (i16, u8)) -> [u8; 3] {
     let [high, low] = predictor.to_be_bytes();
     [high, low, index]
+}
+
+fn all_bytes(samples: &[i16; 64]) -> Vec<u8> {
+    let bytes = samples.iter().map(|sample| sample.to_be_bytes());
+    bytes.flatten().collect()
 }
 
 fn title(text: &str) {
