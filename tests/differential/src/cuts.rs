@@ -39,7 +39,7 @@ fn compare<A, B: Copy + PartialEq + Debug + From<u8>>(
     let len = input.len() / call.from * call.to;
     let whole = Outcome::of(len, state, |state, out| (call.oracle)(input, state, out));
     let ours = Outcome::of(len, state, |state, out| (call.ours)(input, state, out));
-    ours.compare(report, (name, state, "in one"), &whole);
+    ours.compare(report, (call.name, name, state, "in one"), &whole);
     for &edge in edges {
         let ours = Outcome::of(len, state, |state, out| {
             let (first, rest) = input.split_at(edge * call.from);
@@ -47,7 +47,7 @@ fn compare<A, B: Copy + PartialEq + Debug + From<u8>>(
             let number = (call.ours)(first, state, out_of_first);
             number.max((call.ours)(rest, state, out_of_rest))
         });
-        ours.compare(report, (name, state, "cut at", edge), &whole);
+        ours.compare(report, (call.name, name, state, "cut at", edge), &whole);
     }
     whole.buffer().to_vec()
 }

@@ -62,7 +62,7 @@ fn compare<A: Clone + PartialEq, B: Copy + PartialEq + Debug + From<u8>>(
             true => (call.oracle)(input, state, out),
             false => REFUSED,
         });
-        ours.compare(report, (input.len(), len, state), &expected);
+        ours.compare(report, (call.name, input.len(), len, state), &expected);
         assert!(input == before, "a call wrote to what it reads");
     }
 }

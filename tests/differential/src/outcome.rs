@@ -9,6 +9,7 @@ pub type Run<A, B> = fn(&[A], &mut State, &mut [B]) -> u8;
 
 /// One of the two calls, by both sides. A block goes in as `from` numbers, and comes out as `to`.
 pub struct Call<A, B> {
+    pub name: &'static str,
     pub ours: Run<A, B>,
     pub oracle: Run<A, B>,
     pub from: usize,
@@ -16,6 +17,7 @@ pub struct Call<A, B> {
 }
 
 pub const DECODE: Call<u8, i16> = Call {
+    name: "decode",
     ours: ours::decode,
     oracle: oracle::decode,
     from: BYTES,
@@ -23,6 +25,7 @@ pub const DECODE: Call<u8, i16> = Call {
 };
 
 pub const ENCODE: Call<i16, u8> = Call {
+    name: "encode",
     ours: ours::encode,
     oracle: oracle::encode,
     from: SAMPLES,
