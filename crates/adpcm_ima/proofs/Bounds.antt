@@ -3,9 +3,12 @@ use mathlib.Core.Path.{_≡_, refl}
 use mathlib.Core.List.{List}
 use Prim.Native.Nat.{ℕ, _%_, _≤_, _<_}
 use native.Mathlib.Omega.{arith}
+use lib.Dec.{le→leb}
 use lib.IntN.{ℤ, pos, negsuc, natAbs, _+ℤ_, _-ℤ_}
+use mir.Syntax.{w16}
+use mir.Val.{SFits}
 use Rattle.num.proofs.Within.{clamp-le}
-use Rattle.adpcm_ima.specs.Step.{State, Limits, sixteen, lowered, sign, nibbleOf, move, indexed, stepped}
+use Rattle.adpcm_ima.specs.Step.{State, Limits, sixteen, In, lowered, sign, nibbleOf, move, indexed, stepped}
 use Rattle.adpcm_ima.specs.View.{narrow}
 use Rattle.adpcm_ima.proofs.Parts.{greedy-lt}
 
@@ -37,3 +40,8 @@ narrow-below st h = let same : st .index % 256 ≡ st .index = omega arith in rw
 
 pub narrow-is : (steps : List ℕ) (st : State) (v : ℕ) → narrow (stepped sixteen steps st v) ≡ stepped sixteen steps st v
 narrow-is steps st v = narrow-below (stepped sixteen steps st v) (moved-lt steps st (stepped sixteen steps st v) v refl)
+
+-- Every number of 16 bits is within the limits.
+pub fits-in : (x : ℤ) → SFits w16 x → In sixteen x
+fits-in (pos n) f = record { above = record { le = tt }; below = record { le = le→leb n 32767 (omega (arith, f .sfits)) } }
+fits-in (negsuc n) f = record { above = record { le = le→leb n 32767 (omega (arith, f .sfits)) }; below = record { le = tt } }

@@ -9,7 +9,7 @@ use Rattle.adpcm_ima.specs.View.{stateOf}
 use Rattle.ima4.specs.Block.{decodedBlock}
 use Rattle.ima4.specs.Call.{finished, some, decodeBlock, decodeRun}
 use Rattle.ima4.proofs.Lengths.{failed, passed, some-are, decodes}
-use Rattle.ima4.proofs.Turn.{Ran, none, one-block, ends}
+use Rattle.ima4.proofs.Ran.{Ran, none, one-block, ends}
 use Rattle.ima4.proofs.decode_adpcm_ima_ima4_run.Statement.{statement}
 use Rattle.ima4.proofs.decode_adpcm_ima_ima4_run.Tie as tie
 
