@@ -8,7 +8,7 @@ pub(crate) struct Answer {
 }
 
 pub(crate) fn no_call() -> Answer
-    ensures { λ r. ⌜ r .call < 7 ⌝ }
+    ensures { λ r. ⌜ r .call < 9 ⌝ }
 {
     Answer {
         call: 0,

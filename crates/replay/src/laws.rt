@@ -12,7 +12,7 @@ ghost use lib.ListN.{length};
 
 pub(crate) fn answered(bytes: &[u8]) -> Answer
     requires { ⌜ length (now bytes) ≡ 4 ⌝ }
-    ensures { λ r. ⌜ r .call < 7 ⌝ }
+    ensures { λ r. ⌜ r .call < 9 ⌝ }
 {
     let a = bytes[1];
     let b = bytes[2];

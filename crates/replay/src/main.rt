@@ -2,6 +2,7 @@
 // answers are the same and how many differ. data/answers.txt says how it was made, and what a line
 // of it is.
 mod answer;
+mod blocks;
 mod laws;
 mod list;
 mod nibbles;
@@ -13,7 +14,7 @@ use list::read_line;
 ghost use Prim.Native.Nat.{_<_};
 
 // The calls' numbers are below this one. 0 stands for a line that no call takes.
-const CALLS: usize = 7;
+const CALLS: usize = 9;
 
 fn main() {
     let path = b"answers.txt";
@@ -68,13 +69,14 @@ fn counted(tally: Tally, bytes: &[u8]) -> Tally {
     next
 }
 
-// A line of four bytes is a call of a law, one of ten a nibble.
+// A line of four bytes is a call of a law, one of ten a nibble, one of 169 a block.
 fn answered(bytes: &[u8]) -> Answer
-    ensures { λ r. ⌜ r .call < 7 ⌝ }
+    ensures { λ r. ⌜ r .call < 9 ⌝ }
 {
     match bytes.len() {
         4 => laws::answered(bytes),
         10 => nibbles::answered(bytes),
+        169 => blocks::answered(bytes),
         _ => no_call(),
     }
 }
@@ -91,6 +93,8 @@ fn report(tally: Tally) {
     say(b"encode_alaw", tally.same[4], tally.differ[4]);
     say(b"decode_adpcm_ima", tally.same[5], tally.differ[5]);
     say(b"encode_adpcm_ima", tally.same[6], tally.differ[6]);
+    say(b"decode_adpcm_ima_ima4", tally.same[7], tally.differ[7]);
+    say(b"encode_adpcm_ima_ima4", tally.same[8], tally.differ[8]);
     say(b"no call", tally.same[0], tally.differ[0]);
 }
 

@@ -9,7 +9,7 @@ ghost use lib.ListN.{length};
 
 pub(crate) fn answered(bytes: &[u8]) -> Answer
     requires { ⌜ length (now bytes) ≡ 10 ⌝ }
-    ensures { λ r. ⌜ r .call < 7 ⌝ }
+    ensures { λ r. ⌜ r .call < 9 ⌝ }
 {
     let call = bytes[0];
     match call {

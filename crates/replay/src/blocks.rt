@@ -1,0 +1,112 @@
+// The calls on one block of ima4. A line is the call, the state before, the input, the answer and the
+// state after. 34 bytes and 64 samples are the input and the answer, whichever way it goes, so the lines
+// of both calls are 169 bytes long.
+use crate::answer::Answer;
+use crate::answer::no_call;
+use adpcm_ima::AdpcmImaState;
+use ima4::decode_adpcm_ima_ima4;
+use ima4::encode_adpcm_ima_ima4;
+use num::from_halves;
+ghost use mathlib.Core.Path.{_≡_};
+ghost use Prim.Native.Nat.{_+_, _*_, _<_};
+ghost use lib.ListN.{length};
+
+pub(crate) fn answered(bytes: &[u8]) -> Answer
+    requires { ⌜ length (now bytes) ≡ 169 ⌝ }
+    ensures { λ r. ⌜ r .call < 9 ⌝ }
+{
+    let call = bytes[0];
+    match call {
+        7 => Answer {
+            call: 7,
+            same: decoded(bytes),
+        },
+        8 => Answer {
+            call: 8,
+            same: encoded(bytes),
+        },
+        _ => no_call(),
+    }
+}
+
+fn decoded(bytes: &[u8]) -> bool
+    requires { ⌜ length (now bytes) ≡ 169 ⌝ }
+{
+    let before = state_at(bytes, 1);
+    let after = state_at(bytes, 166);
+    let mut samples = [0i16; 64];
+    let d = decode_adpcm_ima_ima4(&bytes[4..38], before, &mut samples);
+    if d.refusal != 0 {
+        return false;
+    }
+    if same_samples(&samples, &bytes[38..166]) {
+        d.state.same(after)
+    } else {
+        false
+    }
+}
+
+fn encoded(bytes: &[u8]) -> bool
+    requires { ⌜ length (now bytes) ≡ 169 ⌝ }
+{
+    let before = state_at(bytes, 1);
+    let after = state_at(bytes, 166);
+    let mut samples = [0i16; 64];
+    read_samples(&bytes[4..132], &mut samples);
+    let mut block = [0u8; 34];
+    let e = encode_adpcm_ima_ima4(&samples, before, &mut block);
+    if e.refusal != 0 {
+        return false;
+    }
+    if same_bytes(&block, &bytes[132..166]) {
+        e.state.same(after)
+    } else {
+        false
+    }
+}
+
+fn state_at(bytes: &[u8], at: usize) -> AdpcmImaState
+    requires { ⌜ at + 2 < length (now bytes) ⌝ }
+{
+    AdpcmImaState {
+        predictor: from_halves(bytes[at], bytes[at + 1]),
+        step_index: bytes[at + 2],
+    }
+}
+
+fn read_samples(bytes: &[u8], samples: &mut [i16])
+    requires { ⌜ length (now bytes) ≡ 2 * length (now samples) ⌝ }
+{
+    let mut i = 0;
+    while i < samples.len() {
+        let sample = from_halves(bytes[2 * i], bytes[2 * i + 1]);
+        samples[i] = sample;
+        i += 1;
+    }
+}
+
+fn same_samples(samples: &[i16], bytes: &[u8]) -> bool
+    requires { ⌜ length (now bytes) ≡ 2 * length (now samples) ⌝ }
+{
+    let mut i = 0;
+    while i < samples.len() {
+        if samples[i] != from_halves(bytes[2 * i], bytes[2 * i + 1]) {
+            return false;
+        }
+        i += 1;
+    }
+    true
+}
+
+fn same_bytes(a: &[u8], b: &[u8]) -> bool
+    requires { ⌜ length (now a) ≡ length (now b) ⌝ }
+{
+    let mut i = 0;
+    while i < a.len() {
+        if a[i] != b[i] {
+            return false;
+        }
+        i += 1;
+    }
+    true
+}
