@@ -1,4 +1,4 @@
--- `ima4::encode_adpcm_ima_ima4` meets its contract: a turn encodes two samples, so what is written and then what the rest is encoded to is the block's. Assumes nothing.
+-- `ima4::encode::encode_adpcm_ima_ima4` meets its contract: a turn encodes two samples, so what is written and then what the rest is encoded to is the block's. Assumes nothing.
 use mathlib.Core.Path.{_≡_, refl, sym, ap, ap₂, _∙_, subst}
 use mathlib.Core.Bool.{true}
 use mathlib.Core.List.{_∷_, []}
@@ -19,8 +19,8 @@ use Rattle.ima4.specs.Block.{encodedBlock}
 use Rattle.ima4.specs.Call.{answered, finished, one, encodeBlock}
 use Rattle.ima4.proofs.Lengths.{failed, passed, sized-are}
 use Rattle.ima4.proofs.Turn.{first-two, all, bytesFrom, one-byte, no-bytes}
-use Rattle.ima4.proofs.encode_adpcm_ima_ima4.Statement.{statement}
-use Rattle.ima4.proofs.encode_adpcm_ima_ima4.Tie as tie
+use Rattle.ima4.proofs.encode.encode_adpcm_ima_ima4.Statement.{statement}
+use Rattle.ima4.proofs.encode.encode_adpcm_ima_ima4.Tie as tie
 
 abbrev Inv-loop : tie.InvT-loop
 Inv-loop samples out-buf₀ steps wide₀ k₀ out-buf wide k =
@@ -35,7 +35,9 @@ abbrev μ-loop : tie.MeasureT-loop
 
 returns : tie.Need-returns Inv-loop μ-loop
 unfolding encodeBlock
-returns c = rw (sym (c .before .one .ensures) ∙ failed (c .before .one .result) (c .if1 .taken)) refl
+returns c =
+    let is = c .refused .ensures in
+    rw (is .0, is .1, sym (c .before .before .one .ensures) ∙ failed (c .before .before .one .result) (c .before .if1 .taken)) refl
 
 -- behind the test of the lengths
 taken : (c : tie.Else1 Inv-loop μ-loop) → one (length (c .before .before .before .args .out-buf .now)) (length (c .before .before .before .args .samples .now)) ≡ true
@@ -118,6 +120,7 @@ encode-adpcm-ima-ima4-spec =
     (tie.spec
     Inv-loop
     μ-loop
+    (λ c κs. search needs)
     (λ c κs. search needs)
     returns
     (λ c κs. search needs)

@@ -1,4 +1,4 @@
--- `ima4::encode_adpcm_ima_ima4_run` meets its contract: a turn is the call on the next block, so what is written and then the run of the rest is the run. Assumes nothing.
+-- `ima4::encode::encode_adpcm_ima_ima4_run` meets its contract: a turn is the call on the next block, so what is written and then the run of the rest is the run. Assumes nothing.
 use mathlib.Core.Path.{_≡_, refl, sym, ap, _∙_}
 use mathlib.Core.Bool.{true}
 use Prim.Native.Nat.{_-_, _*_, _/_, _≤_}
@@ -10,8 +10,8 @@ use Rattle.ima4.specs.Block.{encodedBlock}
 use Rattle.ima4.specs.Call.{finished, some, encodeBlock, encodeRun}
 use Rattle.ima4.proofs.Lengths.{failed, passed, some-are, encodes}
 use Rattle.ima4.proofs.Ran.{Ran, none, one-block, ends}
-use Rattle.ima4.proofs.encode_adpcm_ima_ima4_run.Statement.{statement}
-use Rattle.ima4.proofs.encode_adpcm_ima_ima4_run.Tie as tie
+use Rattle.ima4.proofs.encode.encode_adpcm_ima_ima4_run.Statement.{statement}
+use Rattle.ima4.proofs.encode.encode_adpcm_ima_ima4_run.Tie as tie
 
 abbrev Inv-loop : tie.InvT-loop
 Inv-loop samples out-buf₀ n next₀ i₀ out-buf next i =
@@ -26,7 +26,9 @@ abbrev μ-loop : tie.MeasureT-loop
 
 returns : tie.Need-returns Inv-loop μ-loop
 unfolding encodeRun
-returns c = rw (sym (c .before .some .ensures) ∙ failed (c .before .some .result) (c .if1 .taken)) refl
+returns c =
+    let is = c .refused .ensures in
+    rw (is .0, is .1, sym (c .before .before .some .ensures) ∙ failed (c .before .before .some .result) (c .before .if1 .taken)) refl
 
 -- behind the test of the lengths
 taken : (c : tie.Else1 Inv-loop μ-loop) → some (length (c .before .before .before .args .out-buf .now)) (length (c .before .before .before .args .samples .now)) ≡ true
@@ -71,6 +73,7 @@ encode-adpcm-ima-ima4-run-spec =
     (tie.spec
     Inv-loop
     μ-loop
+    (λ c κs. search needs)
     (λ c κs. search needs)
     returns
     loop-holds

@@ -1,4 +1,4 @@
--- `ima4::decode_adpcm_ima_ima4` meets its contract: a turn decodes a byte, so what is written and then what the rest decodes to is the block's. Assumes nothing.
+-- `ima4::decode::decode_adpcm_ima_ima4` meets its contract: a turn decodes a byte, so what is written and then what the rest decodes to is the block's. Assumes nothing.
 use mathlib.Core.Path.{_≡_, refl, sym, ap, _∙_, subst}
 use mathlib.Core.Bool.{true}
 use Prim.Native.Nat.{ℕ, _+_, _-_, _*_, _≤_, _<_}
@@ -17,8 +17,8 @@ use Rattle.ima4.specs.Block.{decodedBlock}
 use Rattle.ima4.specs.Call.{answered, finished, one, decodeBlock}
 use Rattle.ima4.proofs.Lengths.{failed, passed, sized-are}
 use Rattle.ima4.proofs.Turn.{all, samplesFrom, two-samples, no-samples}
-use Rattle.ima4.proofs.decode_adpcm_ima_ima4.Statement.{statement}
-use Rattle.ima4.proofs.decode_adpcm_ima_ima4.Tie as tie
+use Rattle.ima4.proofs.decode.decode_adpcm_ima_ima4.Statement.{statement}
+use Rattle.ima4.proofs.decode.decode_adpcm_ima_ima4.Tie as tie
 
 abbrev Inv-loop : tie.InvT-loop
 Inv-loop buf out-samples₀ steps wide₀ k₀ out-samples wide k =
@@ -33,7 +33,9 @@ abbrev μ-loop : tie.MeasureT-loop
 
 returns : tie.Need-returns Inv-loop μ-loop
 unfolding decodeBlock
-returns c = rw (sym (c .before .one .ensures) ∙ failed (c .before .one .result) (c .if1 .taken)) refl
+returns c =
+    let is = c .refused .ensures in
+    rw (is .0, is .1, sym (c .before .before .one .ensures) ∙ failed (c .before .before .one .result) (c .before .if1 .taken)) refl
 
 -- behind the test of the lengths
 taken : (c : tie.Else1 Inv-loop μ-loop) → one (length (c .before .before .before .args .buf .now)) (length (c .before .before .before .args .out-samples .now)) ≡ true
@@ -112,6 +114,7 @@ decode-adpcm-ima-ima4-spec =
     (tie.spec
     Inv-loop
     μ-loop
+    (λ c κs. search needs)
     (λ c κs. search needs)
     returns
     (λ c. omega (arith, lengths (c .before) .0))
