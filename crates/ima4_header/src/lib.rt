@@ -39,8 +39,8 @@ pub fn lowered(state: AdpcmImaState) -> AdpcmImaState
 pub fn header_of(state: AdpcmImaState) -> Header
     ensures { λ r. ⌜ r .high ∷ r .low ∷ [] ≡ header (lower (stateOf state)) ⌝ }
 {
-    let index = lesser(state.step_index as usize, 88);
-    let bits = bits_of(state.predictor) / 128 * 128 + index as u32;
+    let seven = lesser(state.step_index as usize, 88);
+    let bits = bits_of(state.predictor) / 128 * 128 + seven as u32;
     Header {
         high: (bits / 256) as u8,
         low: (bits % 256) as u8,

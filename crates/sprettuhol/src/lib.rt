@@ -81,11 +81,11 @@ pub extern "C" fn spr_decode_ima4(
         predictor: *predictor,
         step_index: *step_index,
     };
-    let answer = decode_adpcm_ima_ima4_run(bytes, before, samples);
-    let next = answer.state.predictor;
+    let decoded_run = decode_adpcm_ima_ima4_run(bytes, before, samples);
+    let next = decoded_run.state.predictor;
     *predictor = next;
-    *step_index = answer.state.step_index;
-    answer.refusal
+    *step_index = decoded_run.state.step_index;
+    decoded_run.refusal
 }
 
 #[no_mangle]
@@ -101,9 +101,9 @@ pub extern "C" fn spr_encode_ima4(
         predictor: *predictor,
         step_index: *step_index,
     };
-    let answer = encode_adpcm_ima_ima4_run(samples, before, bytes);
-    let next = answer.state.predictor;
+    let encoded_run = encode_adpcm_ima_ima4_run(samples, before, bytes);
+    let next = encoded_run.state.predictor;
     *predictor = next;
-    *step_index = answer.state.step_index;
-    answer.refusal
+    *step_index = encoded_run.state.step_index;
+    encoded_run.refusal
 }
