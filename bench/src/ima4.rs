@@ -6,6 +6,10 @@
 //! oracle's call for one block is inlined into a loop over the blocks of the same slices. `black_box`
 //! holds the slices of both sides, so that no work can be dropped. The buffers are there before the
 //! first run, and nobody clears them.
+//!
+//! All rows are timed in turn, round by round, and both sides of a row in turn, so that what else the
+//! machine does falls on all. The best round counts: what disturbs a run only ever makes it longer, and
+//! a neighbour on the same core may stay for seconds.
 
 use crate::blocks::{oracle, ours, State, BYTES, MOST, SAMPLES};
 use crate::signal::{noise, speech};
@@ -26,23 +30,52 @@ pub struct Row {
     pub rust: f64,
 }
 
+/// One round of a row: ours, and the Rust's.
+type Round<'a> = Box<dyn FnMut() -> (f64, f64) + 'a>;
+
 /// The noise is at full scale: most steps are large, and many samples are clipped.
 pub fn rows() -> Vec<Row> {
     let len = BLOCKS * SAMPLES;
-    let mut rows = Vec::new();
-    for (content, samples) in [("speech", speech(1, len)), ("noise", noise(1, len))] {
-        let mut bytes = vec![0; BLOCKS * BYTES];
-        oracle::encode(&samples, &mut (0, 0), &mut bytes);
+    let contents = [("speech", speech(1, len)), ("noise", noise(1, len))];
+    let contents = contents.map(|(content, samples)| (content, encoded(&samples), samples));
+    let mut rows: Vec<(Row, Round)> = Vec::new();
+    for (content, bytes, samples) in &contents {
         for blocks in [1, 32, MOST] {
-            let row = Row::new("decode_ima4", content, blocks);
-            rows.push(row.timed((&bytes, BYTES), SAMPLES, ours::decode, oracle::decode));
+            let round = round(
+                (bytes, BYTES),
+                SAMPLES,
+                blocks,
+                ours::decode,
+                oracle::decode,
+            );
+            rows.push((Row::new("decode_ima4", content, blocks), round));
         }
         for blocks in [1, 32, MOST] {
-            let row = Row::new("encode_ima4", content, blocks);
-            rows.push(row.timed((&samples, SAMPLES), BYTES, ours::encode, oracle::encode));
+            let round = round(
+                (samples, SAMPLES),
+                BYTES,
+                blocks,
+                ours::encode,
+                oracle::encode,
+            );
+            rows.push((Row::new("encode_ima4", content, blocks), round));
         }
     }
-    rows
+    eprintln!("timing runs of ima4 ..");
+    for _ in 0..RUNS {
+        for (row, round) in &mut rows {
+            let (ours, rust) = round();
+            row.ours = row.ours.min(ours);
+            row.rust = row.rust.min(rust);
+        }
+    }
+    rows.into_iter().map(|(row, _)| row).collect()
+}
+
+fn encoded(samples: &[i16]) -> Vec<u8> {
+    let mut bytes = vec![0; BLOCKS * BYTES];
+    oracle::encode(samples, &mut (0, 0), &mut bytes);
+    bytes
 }
 
 impl Row {
@@ -55,26 +88,22 @@ impl Row {
             rust: f64::INFINITY,
         }
     }
+}
 
-    /// Times both sides in turn, so that what else the machine does falls on both. The best run counts:
-    /// what disturbs a run only ever makes it longer. A block goes in as `from` numbers, and comes out
-    /// as `to`.
-    fn timed<A, B: Clone + Default>(
-        mut self,
-        (input, from): (&[A], usize),
-        to: usize,
-        ours: impl Fn(&[A], &mut State, &mut [B]) -> u8,
-        rust: impl Fn(&[A], &mut State, &mut [B]) -> u8,
-    ) -> Row {
-        eprintln!("timing {}, {}, {} ..", self.call, self.content, self.blocks);
-        let (from, to) = (self.blocks * from, self.blocks * to);
-        let mut output = vec![B::default(); input.len() / from * to];
-        for _ in 0..RUNS {
-            self.ours = self.ours.min(run((input, from), (&mut output, to), &ours));
-            self.rust = self.rust.min(run((input, from), (&mut output, to), &rust));
-        }
-        self
-    }
+/// A block goes in as `from` numbers, and comes out as `to`.
+fn round<'a, A, B: Clone + Default + 'a>(
+    (input, from): (&'a [A], usize),
+    to: usize,
+    blocks: usize,
+    ours: impl Fn(&[A], &mut State, &mut [B]) -> u8 + 'a,
+    rust: impl Fn(&[A], &mut State, &mut [B]) -> u8 + 'a,
+) -> Round<'a> {
+    let (from, to) = (blocks * from, blocks * to);
+    let mut output = vec![B::default(); input.len() / from * to];
+    Box::new(move || {
+        let ours = run((input, from), (&mut output, to), &ours);
+        (ours, run((input, from), (&mut output, to), &rust))
+    })
 }
 
 /// One call for each `from` numbers that go in and `to` that come out.
