@@ -41,7 +41,7 @@ unfoldable pub nibblesOf : List ℕ → List ℕ
 nibblesOf [] = []
 nibblesOf (b ∷ bs) = b % 16 ∷ b / 16 ∷ nibblesOf bs
 
--- The bytes of nibbles.
+-- The bytes of nibbles, two a byte. A last one alone would be the low half.
 unfoldable pub packed : List ℕ → List ℕ
 packed [] = []
 packed (v ∷ []) = v ∷ []

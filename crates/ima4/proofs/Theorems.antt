@@ -1,7 +1,7 @@
 -- What the calls do to each other's results: a run whose lengths fit is the series of its blocks. Assumes nothing.
 use mathlib.Core.Path.{_≡_, refl, ap, _∙_}
 use mathlib.Core.Bool.{cond}
-use mathlib.Core.List.{List, _++_}
+use mathlib.Core.List.{List, [], _++_}
 use Prim.Native.Nat.{ℕ, _+_, _*_, _/_, _≤_}
 use native.Mathlib.Omega.{arith}
 use lib.IntN.{ℤ}
@@ -105,3 +105,28 @@ decodes-one st bytes out e h =
 pub encodes-one : (st : State) (xs : List ℤ) (out : List ℕ) → length xs ≡ 64 → length out ≡ 34 → encodeBlock st xs out ≡ encodeRun st xs out
 encodes-one st xs out e h =
     rw (encodes st xs out e h, encode-fits 1 (omega arith) st xs out e h, one encodedBlock 64 st xs, take-all 64 xs (omega arith))
+
+-- ---- a run, call by call
+
+-- No blocks: done, state as given.
+pub decodes-none : (st : State) → decodeRun st [] [] ≡ answered 0 st []
+unfolding decodeRun run
+decodes-none st = refl
+
+pub encodes-none : (st : State) → encodeRun st [] [] ≡ answered 0 st []
+unfolding encodeRun run
+encodes-none st = refl
+
+-- A run is the single-block call on its first block, and then the run of the others from the state that it handed back.
+module _ (m : ℕ) (small : 1 + m ≤ 1024) (st : State) where
+  pub decodes-in-order : (xs ys : List ℕ) (os ps : List ℤ) → length xs ≡ 34 → length ys ≡ 34 * m → length os ≡ 64 → length ps ≡ 64 * m
+      → let first = decodeBlock st xs os in
+      let rest = decodeRun (first .state) ys ps in
+      decodeRun st (xs ++ ys) (os ++ ps) ≡ answered 0 (rest .state) (first .buffer ++ rest .buffer)
+  decodes-in-order xs ys os ps a b c d = rw (decodes-one st xs os a c) (decoding-cut 1 m small st xs ys os ps a b c d)
+
+  pub encodes-in-order : (xs ys : List ℤ) (os ps : List ℕ) → length xs ≡ 64 → length ys ≡ 64 * m → length os ≡ 34 → length ps ≡ 34 * m
+      → let first = encodeBlock st xs os in
+      let rest = encodeRun (first .state) ys ps in
+      encodeRun st (xs ++ ys) (os ++ ps) ≡ answered 0 (rest .state) (first .buffer ++ rest .buffer)
+  encodes-in-order xs ys os ps a b c d = rw (encodes-one st xs os a c) (encoding-cut 1 m small st xs ys os ps a b c d)

@@ -1,11 +1,10 @@
 // The header of an ima4 block: the state that a decoder starts the block from, and the two bytes that an encoder writes.
+mod rule;
+
 use adpcm_ima::AdpcmImaState;
 use num::bits_of;
 use num::from_halves;
 use num::lesser;
-
-mod rule;
-
 use rule::keeps;
 ghost use mathlib.Core.Path.{_≡_};
 ghost use mathlib.Core.List.{[], _∷_};
