@@ -9,7 +9,7 @@
 //!
 //! All rows are timed in turn, round by round, and both sides of a row in turn, so that what else the
 //! machine does falls on all. The best round counts: what disturbs a run only ever makes it longer, and
-//! a neighbour on the same core may stay for seconds.
+//! may stay for seconds.
 
 use crate::blocks::{oracle, ours, State, BYTES, MOST, SAMPLES};
 use crate::signal::{noise, speech};

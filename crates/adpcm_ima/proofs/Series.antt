@@ -20,11 +20,6 @@ after-after ys zs r = ap (λ ws. done ws (r .end)) (sym (append-assoc ys zs (r .
 
 -- ---- nibbles in bytes
 
-pub nibbles-length : (bs : List ℕ) → length (nibblesOf bs) ≡ 2 * length bs
-unfolding nibblesOf
-nibbles-length [] = refl
-nibbles-length (b ∷ bs) = let h = nibbles-length bs in omega arith
-
 pub packed-length : (n : ℕ) (vs : List ℕ) → length vs ≡ 2 * n → length (packed vs) ≡ n
 unfolding packed
 packed-length n [] e = omega arith

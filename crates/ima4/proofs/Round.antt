@@ -5,13 +5,13 @@ use mathlib.Core.List.{List, [], _++_}
 use Prim.Native.Nat.{ℕ, suc, _*_, min}
 use native.Mathlib.Omega.{arith}
 use lib.IntN.{ℤ}
-use lib.ListN.{length, drop, length-drop}
+use lib.ListN.{length}
 use Rattle.num.proofs.Lists.{all-split}
 use Rattle.adpcm_ima.specs.Step.{State, sixteen, In, Good}
 use Rattle.adpcm_ima.specs.Table.{imaSteps}
-use Rattle.adpcm_ima.specs.Series.{Done, done, after, Within, encoded, predictors, nibblesOf, packed}
+use Rattle.adpcm_ima.specs.Series.{Done, done, after, Within, encoded, predictors, packed}
 use Rattle.adpcm_ima.proofs.Rising.{step-within}
-use Rattle.adpcm_ima.proofs.Series.{nibbles-length, packed-length, decoded-length, encoded-length, predictors-length}
+use Rattle.adpcm_ima.proofs.Series.{packed-length, encoded-length, predictors-length}
 use Rattle.adpcm_ima.proofs.Series.{encoded-append, predictors-append, decodes-back, encoded-unpacked, end-good, encodes-again}
 use Rattle.ima4_header.specs.Header.{header, lower}
 use Rattle.ima4_header.proofs.Kept.{kept}
@@ -26,11 +26,6 @@ abbrev preds : State → List ℤ → List ℤ
 preds = predictors sixteen imaSteps
 
 -- ---- lengths
-
-pub decoded-64 : (st : State) (bytes : List ℕ) → length bytes ≡ 34 → length (decodedBlock st bytes .written) ≡ 64
-unfolding decodedBlock
-decoded-64 st bytes e =
-    decoded-length sixteen imaSteps _ (nibblesOf (drop 2 bytes)) ∙ nibbles-length (drop 2 bytes) ∙ omega (arith, length-drop 2 bytes)
 
 pub encoded-34 : (st : State) (xs : List ℤ) → length xs ≡ 64 → length (encodedBlock st xs .written) ≡ 34
 unfolding encodedBlock

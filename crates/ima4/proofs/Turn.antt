@@ -1,19 +1,18 @@
 -- One turn of a block's loop: what is written, then what the rest of the block comes to, is what the whole block comes to. Assumes nothing.
 use mathlib.Core.Path.{_≡_, refl, sym, ap, _∙_}
-use mathlib.Core.List.{List, [], _∷_, _++_, append-nil, append-assoc}
+use mathlib.Core.List.{List, [], _∷_}
 use Prim.Native.Nat.{ℕ, suc, _+_, _-_, _*_, _/_, _%_, _<_, _≤_}
 use native.Mathlib.Omega.{arith}
 use lib.IntN.{ℤ, pos}
 use lib.ListN.{length, getD, set, take, drop, length-set, drop-of-length-le}
-use lib.Seq.{take-suc-set, take-all, drop-cons}
+use lib.Seq.{drop-cons}
+use Rattle.num.proofs.Lists.{put, whole}
 use Rattle.adpcm_ima.specs.Step.{State, sixteen, stepped, emitted}
 use Rattle.adpcm_ima.specs.Series.{Done, done, after, decoded, encoded, nibblesOf, packed}
 
 -- one place is written
-pub put : {Y : Type 0} (out : List Y) (q : ℕ) (y : Y) (r : Done Y) → q < length out → after (take (suc q) (set out q y)) r ≡ after (take q out) (after (y ∷ []) r)
-put {Y} out q y r h =
-    ap (λ (ys : List Y). done ys (r .end))
-    (ap (λ (ys : List Y). ys ++ r .written) (take-suc-set out q y h) ∙ append-assoc (take q out) (y ∷ []) (r .written))
+put-one : {Y : Type 0} (out : List Y) (q : ℕ) (y : Y) (r : Done Y) → q < length out → after (take (suc q) (set out q y)) r ≡ after (take q out) (after (y ∷ []) r)
+put-one out q y r h = ap (λ ys. done ys (r .end)) (put out q y (r .written) h)
 
 -- the first two are
 pub first-two : (out : List ℕ) (a b : ℕ) → 2 ≤ length out → take 2 (set (set out 0 a) 1 b) ≡ a ∷ b ∷ []
@@ -23,7 +22,7 @@ first-two (x ∷ y ∷ ys) a b h = refl
 
 -- all are written
 pub all : {Y : Type 0} (out : List Y) (n : ℕ) (st : State) → length out ≤ n → after (take n out) (done [] st) ≡ done out st
-all {Y} out n st h = ap (λ (ys : List Y). done ys st) (append-nil (take n out) ∙ take-all n out h)
+all out n st h = ap (λ ys. done ys st) (whole out n h)
 
 module _ (steps : List ℕ) where
   -- what a block's bytes from its k-th on decode to
@@ -48,8 +47,8 @@ module _ (steps : List ℕ) where
       let c = stepped sixteen steps a (b / 16) in
       let rest = decoded sixteen steps c (nibblesOf (drop (suc (k + 2)) bytes)) in
       rw (more, odd, next, high, low)
-      (put (set out (2 * k) (a .predictor)) (suc (2 * k)) (c .predictor) rest (omega (arith, length-set out (2 * k) (a .predictor)))
-      ∙ put out (2 * k) (a .predictor) (after (c .predictor ∷ []) rest) (omega arith)
+      (put-one (set out (2 * k) (a .predictor)) (suc (2 * k)) (c .predictor) rest (omega (arith, length-set out (2 * k) (a .predictor)))
+      ∙ put-one out (2 * k) (a .predictor) (after (c .predictor ∷ []) rest) (omega arith)
       ∙ ap (λ (bs : List ℕ). after (take (2 * k) out) (decoded sixteen steps st (nibblesOf bs))) (sym (drop-cons bytes (k + 2) 0 h)))
 
   -- behind a block's last byte
@@ -83,7 +82,7 @@ module _ (steps : List ℕ) where
       let rest = encoded sixteen steps (stepped sixteen steps a w′) (drop (suc (suc (2 * k))) samples) in
       let two = drop-cons samples (2 * k) (pos 0) (omega arith) ∙ ap (λ (xs : List ℤ). x ∷ xs) (drop-cons samples (suc (2 * k)) (pos 0) (omega arith)) in
       rw (even, next, moved₂, high, moved, low, odd)
-      (put out (k + 2) (16 * w′ + v′) (done (packed (rest .written)) (rest .end)) l
+      (put-one out (k + 2) (16 * w′ + v′) (done (packed (rest .written)) (rest .end)) l
       ∙ ap (λ (xs : List ℤ). after (take (k + 2) out) (let r = encoded sixteen steps st xs in done (packed (r .written)) (r .end))) (sym two))
 
   -- behind the last two

@@ -10,6 +10,7 @@ use Rattle.adpcm_ima.specs.Series.{Done}
 use Rattle.ima4.specs.Block.{decodedBlock, encodedBlock}
 use Rattle.ima4.specs.Run.{run}
 
+-- What a call returns and leaves: the number, the state, and what its buffer holds at the end.
 pub record Answered (Y : Type 0) : Type 0 where
   pub refusal : ℕ
   pub state : State
@@ -38,18 +39,21 @@ one bytes samples = sized 1 bytes samples
 abbrev pub some : ℕ → ℕ → Bool
 some bytes samples = leb (bytes / 34) 1024 && sized (bytes / 34) bytes samples
 
+-- Otherwise 3. A one-block ima4 call given no blocks answers 3.
 unfoldable pub decodeBlock : State → List ℕ → List ℤ → Answered ℤ
 decodeBlock st bytes out = cond (one (length bytes) (length out)) (finished (decodedBlock st bytes)) (refused st out)
 
 unfoldable pub encodeBlock : State → List ℤ → List ℕ → Answered ℕ
 encodeBlock st samples out = cond (one (length out) (length samples)) (finished (encodedBlock st samples)) (refused st out)
 
+-- A run reads 34 bytes a block to decode, and 64 samples to encode.
 abbrev pub decodedRun : ℕ → State → List ℕ → Done ℤ
 decodedRun = run decodedBlock 34
 
 abbrev pub encodedRun : ℕ → State → List ℤ → Done ℕ
 encodedRun = run encodedBlock 64
 
+-- No blocks: done, state as given.
 unfoldable pub decodeRun : State → List ℕ → List ℤ → Answered ℤ
 decodeRun st bytes out = cond (some (length bytes) (length out)) (finished (decodedRun (length bytes / 34) st bytes)) (refused st out)
 

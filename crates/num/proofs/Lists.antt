@@ -2,7 +2,7 @@
 -- and such a list written from the front, one place at a turn: what is written, then the rest of the rule's list, is the rule's list. Assumes nothing.
 use mathlib.Core.Path.{_≡_, refl, sym, ap, _∙_}
 use mathlib.Core.List.{List, [], _∷_, _++_, append-nil, append-assoc}
-use Prim.Native.Nat.{ℕ, zero, suc, _+_, _-_, _<_}
+use Prim.Native.Nat.{ℕ, zero, suc, _+_, _-_, _<_, _≤_}
 use native.Mathlib.Omega.{arith}
 use lib.ListN.{length, getD, set, take}
 use lib.Seq.{take-suc-set, take-all}
@@ -11,6 +11,14 @@ use Rattle.num.specs.Lists.{from, All}
 pub all-split : {X : Type 0} (P : X → Type 0) (xs ys : List X) → All P (xs ++ ys) → All P xs × All P ys
 all-split P [] ys h = (tt, h)
 all-split P (x ∷ xs) ys (h, k) = let (l, r) = all-split P xs ys k in ((h, l), r)
+
+-- a list written from the front: one place more, with whatever stands behind it; and all of them
+module _ {X : Type 0} (out : List X) where
+  pub put : (k : ℕ) (x : X) (rest : List X) → k < length out → take (suc k) (set out k x) ++ rest ≡ take k out ++ (x ∷ rest)
+  put k x rest h = ap (λ (xs : List X). xs ++ rest) (take-suc-set out k x h) ∙ append-assoc (take k out) (x ∷ []) rest
+
+  pub whole : (n : ℕ) → length out ≤ n → take n out ++ [] ≡ out
+  whole n h = append-nil (take n out) ∙ take-all n out h
 
 module _ {X : Type 0} (f : ℕ → X) where
   pub length-from : (n i : ℕ) → length (from n i f) ≡ n
@@ -39,8 +47,7 @@ module _ {X : Type 0} (f : ℕ → X) where
   unfolding from
   one-more n k out e h u =
       let rest : n - k ≡ suc (n - suc k) = omega arith in
-      ap (λ (xs : List X). xs ++ from (n - suc k) (suc k) f) (take-suc-set out k (f k) (omega arith))
-      ∙ append-assoc (take k out) (f k ∷ []) (from (n - suc k) (suc k) f)
+      put out k (f k) (from (n - suc k) (suc k) f) (omega arith)
       ∙ ap (λ (j : ℕ). take k out ++ from j k f) (sym rest)
       ∙ u
 
@@ -48,7 +55,6 @@ module _ {X : Type 0} (f : ℕ → X) where
   unfolding from
   all n out e u =
       let rest : n - n ≡ 0 = omega arith in
-      sym (take-all n out (omega arith))
-      ∙ sym (append-nil (take n out))
+      sym (whole out n (omega arith))
       ∙ ap (λ (j : ℕ). take n out ++ from j n f) (sym rest)
       ∙ u

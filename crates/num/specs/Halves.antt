@@ -8,6 +8,7 @@ use lib.IntN.{ℤ, pos, negsuc}
 abbrev pub fromBits : ℕ → ℤ
 fromBits n = cond (ltb n 32768) (pos n) (negsuc (65535 - n))
 
+-- The bits of a number, the other way round.
 abbrev pub bitsOf : ℤ → ℕ
 bitsOf (pos n) = n
 bitsOf (negsuc n) = 65535 - n
