@@ -76,6 +76,11 @@ module _ (lowest highest : ℤ) (s : ℕ) (4≤s : 4 ≤ s) (p : ℤ) (a b : ℕ
       rw (predicted-is v)
       (nibble-is s p is r (λ u. omega (arith, k u .0, some u)) ∙ finds s 4≤s v h r (omega arith) (omega arith))
 
+-- A decoded sample is within the limits, at any step.
+pub within : {lowest highest p : ℤ} → lowest ≤ℤ p → p ≤ℤ highest → (s v : ℕ) → (lowest ≤ℤ predicted lowest highest s p v) × (predicted lowest highest s p v ≤ℤ highest)
+unfolding predicted
+within {p} above below s v = clamp-within (≤ℤ-trans above below) (cond (bit 8 v) (p -ℤ pos (d s v)) (p +ℤ pos (d s v)))
+
 module _ (lowest highest : ℤ) (s : ℕ) (4≤s : 4 ≤ s) (p : ℤ) (above : lowest ≤ℤ p) (below : p ≤ℤ highest) where
   -- What the encoder emits, from any sample within the limits, is reachable.
   pub emits : (x : ℤ) → lowest ≤ℤ x → x ≤ℤ highest → reachable lowest highest s p (nibbleOf s p x) ≡ true
@@ -85,18 +90,14 @@ module _ (lowest highest : ℤ) (s : ℕ) (4≤s : 4 ≤ s) (p : ℤ) (above : l
       let e = put-on p x in
       rw e at (emits-at lowest highest s 4≤s p a b low high (x -ℤ p) (rw e l) (rw e h))
 
-  -- A decoded sample is within the limits.
-  pub within : (v : ℕ) → (lowest ≤ℤ predicted lowest highest s p v) × (predicted lowest highest s p v ≤ℤ highest)
-  unfolding predicted
-  within v = clamp-within (≤ℤ-trans above below) (cond (bit 8 v) (p -ℤ pos (d s v)) (p +ℤ pos (d s v)))
-
   -- Encoding what a nibble decodes to gives that nibble again exactly when the nibble is reachable.
   pub again : (v : ℕ) → v < 16 → eqb (nibbleOf s p (predicted lowest highest s p v)) v ≡ reachable lowest highest s p v
   again v h =
       let (a, low) = fall above in
       let (b, high) = rise below in
       let x = predicted lowest highest s p v in
-      let t = emits x (within v .0) (within v .1) in
+      let (l, k) = within above below s v in
+      let t = emits x l k in
       cases (reachable lowest highest s p v)
       (λ e. rw e (eq-eqb (nibbleOf s p x) v (returns lowest highest s 4≤s p a b low high v h e)))
       (λ e. rw e (ne-eqb (nibbleOf s p x) v (λ q. true≢false (sym (rw q at t) ∙ e))))

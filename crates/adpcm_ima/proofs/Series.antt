@@ -1,19 +1,16 @@
 -- Nibbles one after another, over any limits and steps: each law is the law of one nibble, from the state that the nibbles before it left.
 -- Assumes nothing.
 use mathlib.Core.Path.{_≡_, refl, sym, ap, _∙_}
-use mathlib.Core.Bool.{cond}
 use mathlib.Core.List.{List, [], _∷_, _++_, append-assoc}
 use Prim.Native.Nat.{ℕ, suc, _+_, _-_, _*_, _/_, _%_, _≤_, _<_}
 use native.Mathlib.Omega.{arith}
-use lib.IntN.{ℤ, pos, _+ℤ_, _-ℤ_}
+use lib.IntN.{ℤ}
 use lib.ListN.{length}
 use Rattle.num.specs.Lists.{All}
-use Rattle.num.proofs.Shift.{≤ℤ-trans}
-use Rattle.num.proofs.Within.{clamp-within}
-use Rattle.adpcm_ima.specs.Step.{State, Limits, In, Good, stepAt, bit, d, predicted, stepped, emitted}
+use Rattle.adpcm_ima.specs.Step.{State, Limits, In, Good, stepAt, stepped, emitted}
 use Rattle.adpcm_ima.specs.Series.{Done, done, after, Within, decoded, encoded, predictors, nibblesOf, packed}
 use Rattle.adpcm_ima.proofs.Bounds.{nibble-lt, held}
-use Rattle.adpcm_ima.proofs.Reach.{settles}
+use Rattle.adpcm_ima.proofs.Reach.{within, settles}
 
 pub after-after : {Y : Type 0} (ys zs : List Y) (r : Done Y) → after ys (after zs r) ≡ after (ys ++ zs) r
 after-after ys zs r = ap (λ ws. done ws (r .end)) (sym (append-assoc ys zs (r .written)))
@@ -94,10 +91,9 @@ module _ (limits : Limits) (steps : List ℕ) where
   -- ---- within the limits
 
   stepped-good : (st : State) (v : ℕ) → In limits (st .predictor) → Good limits (stepped limits steps st v)
-  unfolding stepped predicted
+  unfolding stepped
   stepped-good st v h =
-      let s = stepAt limits steps st in
-      let (l, k) = clamp-within (≤ℤ-trans (h .above) (h .below)) (cond (bit 8 v) (st .predictor -ℤ pos (d s v)) (st .predictor +ℤ pos (d s v))) in
+      let (l, k) = within (h .above) (h .below) (stepAt limits steps st) v in
       record {
         inside = record { above = l; below = k };
         held = held limits steps st v;
