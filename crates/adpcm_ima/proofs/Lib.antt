@@ -1,4 +1,5 @@
 pub mod Bounds
+pub mod Bytes
 pub mod Counted
 pub mod Parts
 pub mod Reach

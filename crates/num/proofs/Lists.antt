@@ -1,16 +1,25 @@
 -- What stands at a place of a list that is given by a rule, so that a table's rule is one equation of two lists;
 -- and such a list written from the front, one place at a turn: what is written, then the rest of the rule's list, is the rule's list. Assumes nothing.
 use mathlib.Core.Path.{_≡_, refl, sym, ap, _∙_}
-use mathlib.Core.List.{List, [], _∷_, _++_, append-nil, append-assoc}
+use mathlib.Core.List.{List, [], _∷_, _++_, map, append-nil, append-assoc}
 use Prim.Native.Nat.{ℕ, zero, suc, _+_, _-_, _<_, _≤_}
 use native.Mathlib.Omega.{arith}
 use lib.ListN.{length, getD, set, take}
-use lib.Seq.{take-suc-set, take-all}
+use lib.Seq.{take-suc-set, take-all, set-getD}
 use Rattle.num.specs.Lists.{from, All}
 
 pub all-split : {X : Type 0} (P : X → Type 0) (xs ys : List X) → All P (xs ++ ys) → All P xs × All P ys
 all-split P [] ys h = (tt, h)
 all-split P (x ∷ xs) ys (h, k) = let (l, r) = all-split P xs ys k in ((h, l), r)
+
+-- of each, where one is set
+pub map-set : {X Y : Type 0} (f : X → Y) (xs : List X) (i : ℕ) (x : X) → map f (set xs i x) ≡ set (map f xs) i (f x)
+map-set f [] i x = refl
+map-set f (y ∷ xs) zero x = refl
+map-set f (y ∷ xs) (suc i) x = ap (λ ys. f y ∷ ys) (map-set f xs i x)
+
+pub map-kept : {X Y : Type 0} (f : X → Y) (xs : List X) (i : ℕ) (d : X) → map f xs ≡ set (map f xs) i (f (getD xs i d))
+map-kept f xs i d = ap (map f) (sym (set-getD xs i d)) ∙ map-set f xs i (getD xs i d)
 
 -- a list written from the front: one place more, with whatever stands behind it; and all of them
 module _ {X : Type 0} (out : List X) where

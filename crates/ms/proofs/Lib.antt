@@ -1,0 +1,3 @@
+pub mod Midst
+pub mod Read
+pub mod Walk

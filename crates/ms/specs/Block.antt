@@ -1,0 +1,68 @@
+-- An MS block of c channels, decoded and encoded. Assumes nothing.
+use mathlib.Core.Bool.{cond}
+use mathlib.Core.List.{List, _∷_, _++_}
+use Prim.Native.Nat.{ℕ}
+use lib.Dec.{ltb}
+use lib.IntN.{ℤ, pos}
+use lib.ListN.{length, getD, drop}
+use Rattle.num.specs.Lists.{from}
+use Rattle.adpcm_ima.specs.Step.{State, state, sixteen}
+use Rattle.adpcm_ima.specs.Table.{imaSteps}
+use Rattle.adpcm_ima.specs.Series.{Done, done, decoded, encoded, nibblesOf, packed}
+use Rattle.ms_layout.specs.Header.{header, headOf}
+use Rattle.ms_layout.specs.Sizes.{most, samplesOf, bytesOf}
+use Rattle.ms_layout.specs.Weave.{strand, woven}
+
+-- ---- One channel
+
+-- A header, then bytes, low nibble first. The header predictor is the first sample.
+unfoldable pub decodedChannel : List ℕ → List ℤ
+decodedChannel bytes = let head = headOf bytes in head .predictor ∷ decoded sixteen imaSteps head (nibblesOf (drop 4 bytes)) .written
+
+-- The same the other way round: the header has the state that the channel starts from, as it is, and the nibbles follow of all samples but the first.
+unfoldable pub encodedChannel : State → List ℤ → Done ℕ
+encodedChannel st samples =
+    let nibbles = encoded sixteen imaSteps st (drop 1 samples) in
+    done (header st ++ packed (nibbles .written)) (nibbles .end)
+
+-- ---- All channels: four bytes left, four bytes right, headers included; and interleaved samples
+
+abbrev pub bytesIn : ℕ → List ℕ → ℕ → List ℕ
+bytesIn c bytes e = strand 4 c 0 bytes e
+
+abbrev pub samplesIn : ℕ → List ℤ → ℕ → List ℤ
+samplesIn c samples e = strand 1 c (pos 0) samples e
+
+-- Each channel starts from its header.
+unfoldable pub decodedBlock : ℕ → List ℕ → List ℤ
+decodedBlock c bytes = woven 1 c (pos 0) (samplesOf c (length bytes)) (λ e. decodedChannel (bytesIn c bytes e))
+
+-- The channel states travel together; those of channels that are not there come back as they went in.
+abbrev pub stateIn : List State → ℕ → State
+stateIn states e = getD states e (state (pos 0) 0)
+
+abbrev pub each : ℕ → List State → (ℕ → State) → List State
+each c states f = from most 0 (λ e. cond (ltb e c) (f e) (stateIn states e))
+
+-- The encoder sets each predictor from the first sample, and the incoming index is raw, even 200;
+abbrev pub begunIn : ℕ → List State → List ℤ → ℕ → State
+begunIn c states samples e = state (getD (samplesIn c samples e) 0 (pos 0)) (stateIn states e .index)
+
+unfoldable pub begun : ℕ → List State → List ℤ → List State
+begun c states samples = each c states (begunIn c states samples)
+
+-- what follows is written from these states.
+abbrev pub encodedIn : ℕ → List State → List ℤ → ℕ → Done ℕ
+encodedIn c states samples e = encodedChannel (stateIn states e) (samplesIn c samples e)
+
+unfoldable pub blockFrom : ℕ → List State → List ℤ → List ℕ
+blockFrom c states samples = woven 4 c 0 (bytesOf c (length samples)) (λ e. encodedIn c states samples e .written)
+
+unfoldable pub statesFrom : ℕ → List State → List ℤ → List State
+statesFrom c states samples = each c states (λ e. encodedIn c states samples e .end)
+
+abbrev pub encodedBlock : ℕ → List State → List ℤ → List ℕ
+encodedBlock c states samples = blockFrom c (begun c states samples) samples
+
+abbrev pub encodedStates : ℕ → List State → List ℤ → List State
+encodedStates c states samples = statesFrom c (begun c states samples) samples

@@ -1,0 +1,26 @@
+-- The channel numbers and lengths that an MS call takes. Assumes nothing.
+use mathlib.Core.Bool.{Bool, cond, _&&_, _||_}
+use Prim.Native.Nat.{ℕ, _+_, _-_, _*_, _/_, _%_}
+use lib.Dec.{eqb, leb}
+
+-- The most channels that a block has.
+abbrev pub most : ℕ
+most = 2
+
+abbrev pub channelled : ℕ → Bool
+channelled c = leb 1 c && leb c most
+
+-- Block length n: mono 4 to 65,535; stereo 8 to 65,528, divisible by 8.
+abbrev pub sized : ℕ → ℕ → Bool
+sized c n = leb (4 * c) n && leb n 65535 && (eqb c 1 || eqb (n % (4 * c)) 0)
+
+-- Samples: mono 2n-7, stereo 2n-14; and the other way round.
+abbrev pub samplesOf : ℕ → ℕ → ℕ
+samplesOf c n = 2 * n - 7 * c
+
+abbrev pub bytesOf : ℕ → ℕ → ℕ
+bytesOf c m = (m + 7 * c) / 2
+
+-- 1: channel number not 1 or 2. 2: a length breaks the MS rules, or two lengths do not fit. 1 is tested before 2.
+unfoldable pub refusalOf : ℕ → ℕ → ℕ → ℕ
+refusalOf c n m = cond (channelled c) (cond (sized c n && eqb m (samplesOf c n)) 0 2) 1

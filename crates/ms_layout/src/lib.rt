@@ -1,0 +1,61 @@
+// How an MS block is laid out: the channel numbers and lengths that a call takes, and the header of a channel.
+use adpcm_ima::AdpcmImaState;
+use num::from_halves;
+use num::lesser;
+ghost use mathlib.Core.Path.{_≡_};
+ghost use mathlib.Core.Bool.{_&&_, _||_};
+ghost use Prim.Native.Nat.{_*_, _%_, _≤_};
+ghost use lib.Dec.{eqb};
+ghost use Rattle.adpcm_ima.specs.View.{stateOf};
+ghost use Rattle.ms_layout.specs.Header.{headed};
+ghost use Rattle.ms_layout.specs.Sizes.{most, sized, samplesOf, refusalOf};
+
+// The most channels that a block has.
+pub const MOST: usize = 2;
+
+// 0 for done, 1 for a channel number that is not taken, and then 2 for lengths that are not.
+pub fn refusal(channels: usize, bytes: usize, samples: usize) -> u8
+    ensures { λ r. ⌜ r ≡ refusalOf channels bytes samples ⌝ }
+{
+    if channels < 1 {
+        return 1;
+    }
+    if MOST < channels {
+        return 1;
+    }
+    if fits(channels, bytes, samples) { 0 } else { 2 }
+}
+
+// That a length is at most 65,535 is known before the sum is made.
+fn fits(c: usize, bytes: usize, samples: usize) -> bool
+    requires { ⌜ (1 ≤ c) × (c ≤ most) ⌝ }
+    ensures { λ r. ⌜ r ≡ (sized c bytes && eqb samples (samplesOf c bytes)) ⌝ }
+{
+    if bytes < 4 * c {
+        return false;
+    }
+    if 65535 < bytes {
+        return false;
+    }
+    if even(c, bytes) {
+        samples == 2 * (bytes - 4 * c) + c
+    } else {
+        false
+    }
+}
+
+// A block of one channel may end anywhere, and any other at the end of a group.
+fn even(c: usize, bytes: usize) -> bool
+    requires { ⌜ (1 ≤ c) × (c ≤ most) ⌝ }
+    ensures { λ r. ⌜ r ≡ (eqb c 1 || eqb (bytes % (4 * c)) 0) ⌝ }
+{
+    if c == 1 { true } else { bytes % (4 * c) == 0 }
+}
+
+// The state that a decoder starts a channel from.
+pub fn head(low: u8, high: u8, index: u8) -> AdpcmImaState
+    ensures { λ r. ⌜ stateOf r ≡ headed low high index ⌝ }
+{
+    let lowered = lesser(index as usize, 88);
+    AdpcmImaState::new().reloaded(from_halves(high, low), lowered as u8)
+}
