@@ -21,7 +21,7 @@ pub struct Wide {
 
 impl Wide {
     pub fn of(state: AdpcmImaState) -> Self
-        ensures { λ r. ⌜ wideOf r ≡ stateOf state ⌝ }
+        ensures { λ r. ⌜ (wideOf r ≡ stateOf state) × (r .index < 256) ⌝ }
     {
         Self {
             predictor: state.predictor,

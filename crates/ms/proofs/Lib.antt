@@ -1,3 +1,4 @@
 pub mod Midst
 pub mod Read
 pub mod Walk
+pub mod Write

@@ -1,11 +1,11 @@
 -- What stands at a place of a list that is given by a rule, so that a table's rule is one equation of two lists;
 -- and such a list written from the front, one place at a turn: what is written, then the rest of the rule's list, is the rule's list. Assumes nothing.
-use mathlib.Core.Path.{_≡_, refl, sym, ap, _∙_}
+use mathlib.Core.Path.{_≡_, refl, sym, ap, ap₂, _∙_}
 use mathlib.Core.List.{List, [], _∷_, _++_, map, append-nil, append-assoc}
 use Prim.Native.Nat.{ℕ, zero, suc, _+_, _-_, _<_, _≤_}
 use native.Mathlib.Omega.{arith}
 use lib.ListN.{length, getD, set, take}
-use lib.Seq.{take-suc-set, take-all, set-getD}
+use lib.Seq.{take-suc, take-suc-set, take-all, set-getD}
 use Rattle.num.specs.Lists.{from, All}
 
 pub all-split : {X : Type 0} (P : X → Type 0) (xs ys : List X) → All P (xs ++ ys) → All P xs × All P ys
@@ -28,6 +28,14 @@ module _ {X : Type 0} (out : List X) where
 
   pub whole : (n : ℕ) → length out ≤ n → take n out ++ [] ≡ out
   whole n h = append-nil (take n out) ∙ take-all n out h
+
+-- a list written from the front that is to be another: one place more; and all of them
+module _ {X : Type 0} (out xs : List X) (d : X) where
+  pub as-far : (k : ℕ) (x : X) → k < length out → k < length xs → x ≡ getD xs k d → take k out ≡ take k xs → take (suc k) (set out k x) ≡ take (suc k) xs
+  as-far k x h l e same = take-suc-set out k x h ∙ ap₂ (λ ys y. ys ++ (y ∷ [])) same e ∙ sym (take-suc xs k d l)
+
+  pub as-long : (n : ℕ) → length out ≡ n → length xs ≡ n → take n out ≡ take n xs → out ≡ xs
+  as-long n h l same = sym (take-all n out (omega arith)) ∙ same ∙ take-all n xs (omega arith)
 
 module _ {X : Type 0} (f : ℕ → X) where
   pub length-from : (n i : ℕ) → length (from n i f) ≡ n

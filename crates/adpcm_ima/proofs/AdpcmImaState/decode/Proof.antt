@@ -15,7 +15,7 @@ returns : tie.Need-returns
 unfolding imaSteps
 returns c =
     let s = c .before .before .before .before .before .args in
-    let next = c .before .before .moved .ensures ∙ ap (λ (st : State). stepped sixteen imaSteps st (s .nibble)) (c .before .before .before .before .of .ensures) in
+    let next = c .before .before .moved .ensures ∙ ap (λ (st : State). stepped sixteen imaSteps st (s .nibble)) (c .before .before .before .before .of .ensures .0) in
     let state = c .narrowed .ensures ∙ ap narrow next ∙ narrow-is imaSteps _ (s .nibble) in
     let f : SFits w16 (c .before .before .moved .result .predictor) = search needs in
     (state, toZ-ofZ w16 _ f ∙ sym (ap (λ (st : State). st .predictor) (c .narrowed .ensures)))

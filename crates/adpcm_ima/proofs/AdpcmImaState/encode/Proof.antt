@@ -14,7 +14,7 @@ returns : tie.Need-returns
 unfolding imaSteps
 returns c =
     let s = c .before .before .before .before .before .before in
-    let of = c .before .before .before .before .before .of .ensures in
+    let of = c .before .before .before .before .before .of .ensures .0 in
     let n = c .before .before .before .nibble in
     let nibble = n .ensures .0 ∙ ap₂ (emitted sixteen imaSteps) of (toZ-ofZ w16 _ (s .fits .sample)) in
     let next = c .before .moved .ensures ∙ ap (λ (st : State). stepped sixteen imaSteps st (n .result)) of in

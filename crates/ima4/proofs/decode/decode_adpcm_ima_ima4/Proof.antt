@@ -47,9 +47,7 @@ lengths c = let a = c .before .before .before .args in sized-are 1 (length (a .b
 loop-holds : tie.Need-loop-holds Inv-loop μ-loop
 loop-holds c =
     let (b, o) = lengths (c .before .before .before .before) in
-    let i = ap (λ (st : State). st .index) (c .of .ensures) in
-    let h : c .before .started .result .«step_index» < 256 = search needs in
-    (refl, b, o, omega arith, omega arith)
+    (refl, b, o, omega arith, c .of .ensures .1)
 
 second-place : tie.Need-slice-set-from-second Inv-loop μ-loop
 second-place c =
@@ -103,7 +101,7 @@ returns-2 c =
     let s = at .before .before .before .before .before in
     let a = s .before .before .before .args in
     let bytes = a .buf .now in
-    let from = at .before .of .ensures ∙ at .before .before .started .ensures in
+    let from = at .before .of .ensures .0 ∙ at .before .before .started .ensures in
     let state = c .narrowed .ensures ∙ narrow-below (wideOf (at .loop .wide)) (at .loop .inv .4) in
     let block = ends (c .before) ∙ ap (λ (st : State). samplesFrom imaSteps 0 st bytes) from in
     rw (taken s) (ap (λ (st : State). answered 0 st (at .loop .out-samples)) state ∙ ap finished block)

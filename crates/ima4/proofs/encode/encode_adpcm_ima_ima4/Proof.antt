@@ -56,9 +56,7 @@ loop-holds c =
     let out = s .before .before .before .args .out-buf .now in
     let header = c .before .before .header-of .result in
     let size = length-set (set out 0 (header .high)) 1 (header .low) ∙ length-set out 0 (header .high) ∙ o in
-    let i = ap (λ (st : State). st .index) (c .of .ensures) in
-    let h : c .before .lowered .result .«step_index» < 256 = search needs in
-    (refl, x, size, omega arith, omega arith)
+    (refl, x, size, omega arith, c .of .ensures .1)
 
 loop-again : tie.Need-loop-again Inv-loop μ-loop
 unfolding imaSteps
@@ -106,7 +104,7 @@ returns-2 c =
     let at = c .before .before in
     let s = at .before .before .before .before in
     let samples = s .before .before .before .args .samples .now in
-    let from = at .before .of .ensures ∙ at .before .before .lowered .ensures in
+    let from = at .before .of .ensures .0 ∙ at .before .before .lowered .ensures in
     let state = c .narrowed .ensures ∙ narrow-below (wideOf (at .loop .wide)) (at .loop .inv .4) in
     let block = ends (c .before) ∙ ap₂ (λ bs st. after bs (bytesFrom imaSteps 0 st samples)) (at .before .before .before .header-of .ensures) from in
     rw (taken s) (ap (λ st. answered 0 st (at .loop .out-buf)) state ∙ ap finished block)
