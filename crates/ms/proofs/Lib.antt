@@ -1,3 +1,5 @@
 pub mod Midst
 pub mod Read
+pub mod Round
+pub mod Theorems
 pub mod Walk
