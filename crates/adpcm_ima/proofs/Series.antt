@@ -7,7 +7,7 @@ use native.Mathlib.Omega.{arith}
 use lib.IntN.{ℤ}
 use lib.ListN.{length}
 use Rattle.num.specs.Lists.{All}
-use Rattle.adpcm_ima.specs.Step.{State, Limits, In, Good, stepAt, stepped, emitted}
+use Rattle.adpcm_ima.specs.Step.{State, state, Limits, In, Good, lowered, stepAt, stepped, emitted}
 use Rattle.adpcm_ima.specs.Series.{Done, done, after, Within, decoded, encoded, predictors, nibblesOf, packed}
 use Rattle.adpcm_ima.proofs.Bounds.{nibble-lt, held}
 use Rattle.adpcm_ima.proofs.Reach.{within, settles}
@@ -22,6 +22,11 @@ unfolding packed
 packed-length n [] e = omega arith
 packed-length n (v ∷ []) e = absurd (omega arith)
 packed-length n (v ∷ w ∷ vs) e = let h = packed-length (n - 1) vs (omega arith) in omega arith
+
+pub nibbles-length : (bs : List ℕ) → length (nibblesOf bs) ≡ 2 * length bs
+unfolding nibblesOf
+nibbles-length [] = refl
+nibbles-length (b ∷ bs) = let h = nibbles-length bs in omega arith
 
 -- Nibbles of four bits, an even number of them, are read back from their bytes.
 pub unpacked : (n : ℕ) (vs : List ℕ) → length vs ≡ 2 * n → All (λ v. v < 16) vs → nibblesOf (packed vs) ≡ vs
@@ -67,6 +72,14 @@ module _ (limits : Limits) (steps : List ℕ) where
   unfolding encoded predictors
   predictors-append st [] ys = refl
   predictors-append st (x ∷ xs) ys = ap (λ zs. next st x .predictor ∷ zs) (predictors-append (next st x) xs ys)
+
+  -- ---- an index above the last
+
+  -- A step begins with lowering the index, so it does not matter whether that was done before.
+  pub decoded-lowered : (p : ℤ) (i : ℕ) (vs : List ℕ) → dec (state p (lowered limits i)) vs .written ≡ dec (state p i) vs .written
+  unfolding decoded stepped stepAt
+  decoded-lowered p i [] = refl
+  decoded-lowered p i (v ∷ vs) = let e : lowered limits (lowered limits i) ≡ lowered limits i = omega arith in rw e
 
   -- ---- there and back
 

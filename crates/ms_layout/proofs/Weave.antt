@@ -2,7 +2,7 @@
 use mathlib.Core.Path.{_≡_, refl, sym, ap, ap₂, _∙_}
 use mathlib.Core.Logic.{_⊎_, inl, inr}
 use mathlib.Core.List.{List}
-use Prim.Native.Nat.{ℕ, zero, suc, _+_, _*_, _/_, _%_, _≤_, _<_}
+use Prim.Native.Nat.{ℕ, suc, _+_, _*_, _/_, _%_, _<_}
 use native.Mathlib.Nat.{div-add-mod, mul-add-div, mul-add-mod-self-left, mod-lt, mod-eq-of-lt, div-eq-of-lt, mul-le-mul-left, lt-of-mul-lt-mul-left}
 use native.Mathlib.Omega.{arith}
 use lib.ListN.{length, getD}
@@ -131,3 +131,26 @@ module _ (turn c : ℕ) (ht : 0 < turn) (hc : 0 < c) where
     pub strand-at : (xs : List X) (e d : ℕ) → d < length xs / c → getD (strand turn c x xs e) d x ≡ getD xs (at e d) x
     unfolding strand
     strand-at xs e d h = let f : ℕ → X = λ i. getD xs (at e i) x in getD-from f (length xs / c) 0 d x h ∙ ap f (omega arith)
+
+    -- ---- there and back
+
+    -- each channel's items are read back from the list that they were woven into
+    pub unwoven : (n : ℕ) (strands : ℕ → List X) (e : ℕ) → Even turn c n → e < c → length (strands e) ≡ n / c → strand turn c x (woven turn c x n strands) e ≡ strands e
+    unwoven n strands e even h l =
+        let xs = woven turn c x n strands in
+        let long = strand-length xs e ∙ ap (λ (k : ℕ). k / c) (woven-length n strands) in
+        ext-getD x (strand turn c x xs e) (strands e) (long ∙ sym l)
+        (λ d k.
+        strand-at xs e d (omega (arith, k, strand-length xs e))
+        ∙ woven-at n strands e d h (in-list n e d even h (omega (arith, k, long))))
+
+    -- nothing else of the channels is in that list
+    pub woven-same : (n : ℕ) (strands others : ℕ → List X) → ((e : ℕ) → e < c → strands e ≡ others e) → woven turn c x n strands ≡ woven turn c x n others
+    woven-same n strands others same =
+        weaves n others (woven turn c x n strands) (woven-length n strands)
+        (λ e d h k. woven-at n strands e d h k ∙ ap (λ (ys : List X). getD ys d x) (same e h))
+
+    -- and a list is woven again from its channels' items
+    pub rewoven : (xs : List X) → Even turn c (length xs) → woven turn c x (length xs) (strand turn c x xs) ≡ xs
+    rewoven xs even =
+        sym (weaves (length xs) (strand turn c x xs) xs refl (λ e d h k. sym (strand-at xs e d (in-strand (length xs) e d even h k))))

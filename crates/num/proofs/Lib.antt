@@ -1,4 +1,5 @@
 pub mod Bits
+pub mod Halves
 pub mod Lists
 pub mod Shift
 pub mod Signed

@@ -12,6 +12,11 @@ pub all-split : {X : Type 0} (P : X → Type 0) (xs ys : List X) → All P (xs +
 all-split P [] ys h = (tt, h)
 all-split P (x ∷ xs) ys (h, k) = let (l, r) = all-split P xs ys k in ((h, l), r)
 
+pub all-at : {X : Type 0} (P : X → Type 0) (xs : List X) (i : ℕ) (d : X) → i < length xs → All P xs → P (getD xs i d)
+all-at P [] i d l h = absurd (omega arith)
+all-at P (x ∷ xs) zero d l (h, k) = h
+all-at P (x ∷ xs) (suc i) d l (h, k) = all-at P xs i d (omega arith) k
+
 -- of each, where one is set
 pub map-set : {X Y : Type 0} (f : X → Y) (xs : List X) (i : ℕ) (x : X) → map f (set xs i x) ≡ set (map f xs) i (f x)
 map-set f [] i x = refl
