@@ -65,13 +65,15 @@ module _ {X : Type 0} (f : ℕ → X) where
   pub none : (n : ℕ) (out : List X) → Upto n out 0
   none n out = let e : n - 0 ≡ n = omega arith in rw e refl
 
-  pub one-more : (n k : ℕ) (out : List X) → length out ≡ n → k < n → Upto n out k → Upto n (set out k (f k)) (suc k)
+  pub one-more : (n k : ℕ) (out : List X) (x : X) → length out ≡ n → k < n → x ≡ f k → Upto n out k → Upto n (set out k x) (k + 1)
   unfolding from
-  one-more n k out e h u =
+  one-more n k out x e h x-is u =
       let rest : n - k ≡ suc (n - suc k) = omega arith in
-      put out k (f k) (from (n - suc k) (suc k) f) (omega arith)
+      let next : k + 1 ≡ suc k = omega arith in
+      rw (x-is, next)
+      (put out k (f k) (from (n - suc k) (suc k) f) (omega arith)
       ∙ ap (λ (j : ℕ). take k out ++ from j k f) (sym rest)
-      ∙ u
+      ∙ u)
 
   pub all : (n : ℕ) (out : List X) → length out ≡ n → Upto n out n → out ≡ from n 0 f
   unfolding from

@@ -1,11 +1,22 @@
 // The static library: the C interface, each function with its whole contract.
+mod states;
+
 use adpcm_ima::AdpcmImaState;
 use ima4::decode_adpcm_ima_ima4_run;
 use ima4::encode_adpcm_ima_ima4_run;
+use ms::decode_adpcm_ima_ms;
+use ms::encode_adpcm_ima_ms;
+use ms_layout::MOST;
+use states::predictors_of;
+use states::states_of;
+use states::step_indices_of;
 ghost use mathlib.Core.Path.{_≡_};
+ghost use mathlib.Core.List.{[]};
 ghost use Rattle.adpcm_ima.specs.Step.{state, sixteen, stepped, emitted};
 ghost use Rattle.adpcm_ima.specs.Table.{imaSteps};
 ghost use Rattle.ima4.specs.Call.{answered, decodeRun, encodeRun};
+ghost use Rattle.ms.specs.Call as Ms;
+ghost use Rattle.sprettuhol.specs.States.{statesOf};
 ghost use Rattle.g711.specs.Law.{mu-law, A-law, sampleOf, codeOf};
 
 #[no_mangle]
@@ -106,4 +117,31 @@ pub extern "C" fn spr_encode_ima4(
     *predictor = next;
     *step_index = encoded_run.state.step_index;
     encoded_run.refusal
+}
+
+// One MS block. Channel numbers that are not taken are refused by 1, and then lengths by 2; nothing is written then.
+#[no_mangle]
+pub extern "C" fn spr_decode_ms(channels: u8, block: &[u8], samples: &mut [i16]) -> u8
+    ensures { λ r. ⌜ Ms.answered r [] (now (samples .exit)) ≡ Ms.decodeBlock channels (now (block .entry)) (now (samples .entry)) ⌝ }
+{
+    decode_adpcm_ima_ms(channels, block, samples)
+}
+
+// The states are read and written through two numbers each.
+#[no_mangle]
+pub extern "C" fn spr_encode_ms(
+    channels: u8,
+    samples: &[i16],
+    predictors: &mut [i16; MOST],
+    step_indices: &mut [u8; MOST],
+    block: &mut [u8],
+) -> u8
+    ensures { λ r. ⌜ Ms.answered r (statesOf (now (predictors .exit)) (now («step_indices» .exit))) (now (block .exit)) ≡ Ms.encodeBlock channels (now (samples .entry)) (statesOf (now (predictors .entry)) (now («step_indices» .entry))) (now (block .entry)) ⌝ }
+{
+    let before = states_of(*predictors, *step_indices);
+    let encoded_block = encode_adpcm_ima_ms(channels, samples, before, block);
+    let after = encoded_block.states;
+    *predictors = predictors_of(after);
+    *step_indices = step_indices_of(after);
+    encoded_block.refusal
 }

@@ -46,9 +46,7 @@ loop-again c =
     let inv = at .loop .inv in
     let g : SFits w16 (c .before .sample .result) = search needs in
     let is : c .answered .result ≡ rule w k = c .answered .ensures ∙ ap (answerOf imaSteps w) (toZ-ofZ w16 _ g ∙ c .before .sample .ensures) in
-    let next : suc k ≡ k + 1 = omega arith in
-    let turn = one-more (rule w) 65536 k (at .loop .answers) (inv .1) (omega arith) (inv .0) in
-    (rw is (subst (Upto (rule w) 65536 (set (at .loop .answers) k (rule w k))) next turn), length-set (at .loop .answers) k (c .answered .result) ∙ inv .1, omega arith)
+    (one-more (rule w) 65536 k (at .loop .answers) (c .answered .result) (inv .1) (omega arith) is (inv .0), length-set (at .loop .answers) k (c .answered .result) ∙ inv .1, omega arith)
 
 returns-2 : tie.Need-returns-2 Inv-loop μ-loop
 returns-2 c =
