@@ -1,4 +1,5 @@
 -- The channel numbers and lengths that an MS call takes. Assumes nothing.
+use mathlib.Core.Path.{_≡_}
 use mathlib.Core.Bool.{Bool, cond, _&&_, _||_}
 use Prim.Native.Nat.{ℕ, _+_, _-_, _*_, _/_, _%_}
 use lib.Dec.{eqb, leb}
@@ -24,3 +25,7 @@ bytesOf c m = (m + 7 * c) / 2
 -- 1: channel number not 1 or 2. 2: a length breaks the MS rules, or two lengths do not fit. 1 is tested before 2.
 unfoldable pub refusalOf : ℕ → ℕ → ℕ → ℕ
 refusalOf c n m = cond (channelled c) (cond (sized c n && eqb m (samplesOf c n)) 0 2) 1
+
+-- 0: the call is done.
+abbrev pub Taken : ℕ → ℕ → ℕ → Type 0
+Taken c n m = refusalOf c n m ≡ 0

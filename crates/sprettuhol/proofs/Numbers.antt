@@ -10,12 +10,16 @@ use Rattle.num.proofs.Lists.{length-from, getD-from}
 use Rattle.adpcm_ima.specs.Step.{State, state}
 use Rattle.adpcm_ima.specs.declared.AdpcmImaState.{AdpcmImaState}
 use Rattle.ms_layout.specs.Sizes.{most}
-use Rattle.ms.specs.Block.{stateIn}
+use Rattle.ms_block.specs.Block.{stateIn}
 use Rattle.sprettuhol.specs.States.{statesOf, predictorsOf, indicesOf}
 
 -- what is read of an array where it has nothing
 abbrev pub nobody : AdpcmImaState
 nobody = record { predictor = pos 0; «step_index» = 0 }
+
+pub numbers-length : (predictors : List ℤ) (indices : List ℕ) → length (statesOf predictors indices) ≡ most
+unfolding statesOf
+numbers-length predictors indices = length-from _ most 0
 
 -- Nothing is lost between the states and their numbers.
 pub numbers-back : (states : List State) → length states ≡ most → statesOf (predictorsOf states) (indicesOf states) ≡ states

@@ -6,7 +6,7 @@ use lib.ListN.{getD}
 use Rattle.num.specs.Lists.{from}
 use Rattle.adpcm_ima.specs.Step.{State, state}
 use Rattle.ms_layout.specs.Sizes.{most}
-use Rattle.ms.specs.Block.{stateIn}
+use Rattle.ms_block.specs.Block.{stateIn}
 
 -- A predictor and a step index for each channel, and the other way round.
 unfoldable pub statesOf : List ℤ → List ℕ → List State

@@ -15,7 +15,7 @@ ghost use mathlib.Core.List.{[]};
 ghost use Rattle.adpcm_ima.specs.Step.{state, sixteen, stepped, emitted};
 ghost use Rattle.adpcm_ima.specs.Table.{imaSteps};
 ghost use Rattle.ima4.specs.Call.{answered, decodeRun, encodeRun};
-ghost use Rattle.ms.specs.Call as Ms;
+ghost use Rattle.ms_block.specs.Call as Ms;
 ghost use Rattle.sprettuhol.specs.States.{statesOf};
 ghost use Rattle.g711.specs.Law.{mu-law, A-law, sampleOf, codeOf};
 

@@ -14,7 +14,7 @@ use Rattle.adpcm_ima.specs.Step.{State}
 use Rattle.adpcm_ima.specs.declared.AdpcmImaState.{AdpcmImaState}
 use Rattle.adpcm_ima.specs.View.{stateOf}
 use Rattle.ms_layout.specs.Sizes.{most}
-use Rattle.ms.specs.Block.{stateIn}
+use Rattle.ms_block.specs.Block.{stateIn}
 use Rattle.sprettuhol.specs.States.{predictorsOf}
 use Rattle.sprettuhol.proofs.Numbers.{nobody}
 use Rattle.sprettuhol.proofs.states.predictors_of.Statement.{statement}
@@ -43,10 +43,11 @@ loop-again c =
     let inv = at .loop .inv in
     let st = getD states e nobody in
     let f : SFits w16 (st .predictor) = search needs in
-    let x = toZ w16 (ofZ w16 (st .predictor)) in
-    (one-more (rule states) most e (at .loop .predictors) x (inv .1) (c .before .before .loop-test .taken) (toZ-ofZ w16 _ f ∙ ap (λ (s : State). s .predictor) (sym (List·getD-map stateOf states e nobody))) (inv .0),
-    length-set (at .loop .predictors) e x ∙ inv .1,
-    omega (arith, c .before .before .loop-test .taken))
+    let x = toZ w16 (ofZ w16 (st .predictor)) in (
+      one-more (rule states) most e (at .loop .predictors) x (inv .1) (c .before .before .loop-test .taken) (toZ-ofZ w16 _ f ∙ ap (λ (s : State). s .predictor) (sym (List·getD-map stateOf states e nobody))) (inv .0),
+      length-set (at .loop .predictors) e x ∙ inv .1,
+      omega (arith, c .before .before .loop-test .taken),
+    )
 
 returns : tie.Need-returns Inv-loop μ-loop
 unfolding predictorsOf

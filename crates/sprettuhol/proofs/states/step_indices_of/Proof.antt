@@ -10,7 +10,7 @@ use Rattle.adpcm_ima.specs.Step.{State}
 use Rattle.adpcm_ima.specs.declared.AdpcmImaState.{AdpcmImaState}
 use Rattle.adpcm_ima.specs.View.{stateOf}
 use Rattle.ms_layout.specs.Sizes.{most}
-use Rattle.ms.specs.Block.{stateIn}
+use Rattle.ms_block.specs.Block.{stateIn}
 use Rattle.sprettuhol.specs.States.{indicesOf}
 use Rattle.sprettuhol.proofs.Numbers.{nobody}
 use Rattle.sprettuhol.proofs.states.step_indices_of.Statement.{statement}
@@ -37,10 +37,11 @@ loop-again c =
     let states = at .before .args .t1 in
     let e = at .loop .e in
     let inv = at .loop .inv in
-    let x = getD states e nobody .«step_index» in
-    (one-more (rule states) most e (at .loop .step-indices) x (inv .1) (c .before .loop-test .taken) (ap (λ (s : State). s .index) (sym (List·getD-map stateOf states e nobody))) (inv .0),
-    length-set (at .loop .step-indices) e x ∙ inv .1,
-    omega (arith, c .before .loop-test .taken))
+    let x = getD states e nobody .«step_index» in (
+      one-more (rule states) most e (at .loop .step-indices) x (inv .1) (c .before .loop-test .taken) (ap (λ (s : State). s .index) (sym (List·getD-map stateOf states e nobody))) (inv .0),
+      length-set (at .loop .step-indices) e x ∙ inv .1,
+      omega (arith, c .before .loop-test .taken),
+    )
 
 returns : tie.Need-returns Inv-loop μ-loop
 unfolding indicesOf

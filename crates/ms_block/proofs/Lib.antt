@@ -1,0 +1,4 @@
+pub mod Midst
+pub mod Round
+pub mod Theorems
+pub mod Walk

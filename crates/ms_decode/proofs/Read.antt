@@ -1,0 +1,177 @@
+-- A block that is being decoded: what is written and the channels' states, before, after and between its bytes. Assumes nothing.
+use mathlib.Core.Path.{_≡_, refl, sym, ap, ap₂, _∙_, subst}
+use mathlib.Core.List.{List, _∷_}
+use Prim.Native.Nat.{ℕ, suc, _+_, _-_, _*_, _/_, _%_, _≤_, _<_}
+use native.Mathlib.Omega.{arith}
+use lib.Dec.{eqb}
+use lib.IntN.{ℤ, pos}
+use lib.ListN.{length, getD, set, drop, length-drop, length-set}
+use lib.Seq.{getD-drop, getD-set-same, getD-set-other, set-set}
+use borrow.Author.Tests.{eqb-true, eqb-false}
+use borrow.Table.Steps.{cases}
+use Rattle.adpcm_ima.specs.Step.{State, state, sixteen, stepped}
+use Rattle.adpcm_ima.specs.Table.{imaSteps}
+use Rattle.adpcm_ima.specs.Series.{decoded, nibblesOf}
+use Rattle.adpcm_ima.proofs.Bytes.{reads, read-low, read-high, read-next}
+use Rattle.ms_layout.specs.Header.{headed, headOf}
+use Rattle.ms_layout.specs.Weave.{place}
+use Rattle.ms_layout.proofs.Sizes.{Shape, four-bytes, samples-all, samples-each, even-samples}
+use Rattle.ms_layout.proofs.Weave.{weaves, singly, in-list, in-strand, strand-at, strand-length}
+use Rattle.ms_block.specs.Block.{decodedChannel, bytesIn, decodedBlock}
+use Rattle.ms_decode.specs.Progress.{Headed}
+use Rattle.ms_block.proofs.Midst.{byte, in-group, States, states-first, state-now, states-turn, Frames, frames-first, frames-turn}
+use Rattle.ms_block.proofs.Walk.{Bytes, own, four, own-place, own-inside, room}
+
+abbrev moved : State → ℕ → State
+moved = stepped sixteen imaSteps
+
+-- ---- one channel's own bytes
+
+-- the state before byte d, the headers' four included
+abbrev before : List ℕ → ℕ → State
+before own d = reads sixteen imaSteps (headOf own) (drop 4 own) (d - 4)
+
+abbrev sample : List ℕ → ℕ → ℤ
+sample own k = getD (decodedChannel own) k (pos 0)
+
+module _ (own : List ℕ) (d : ℕ) (four : 4 ≤ d) (h : d < length own) where
+  abbrev low : State
+  low = moved (before own d) (getD own d 0 % 16)
+
+  abbrev high : State
+  high = moved low (getD own d 0 / 16)
+
+  byte-is : getD (drop 4 own) (d - 4) 0 ≡ getD own d 0
+  byte-is = getD-drop 4 own (d - 4) 0 ∙ ap (λ (i : ℕ). getD own i 0) (omega (arith, four))
+
+  inside : d - 4 < length (drop 4 own)
+  inside = omega (arith, length-drop 4 own, four, h)
+
+  low-is : sample own (2 * d - 7) ≡ low .predictor
+  unfolding decodedChannel
+  low-is =
+      let k : 2 * d - 7 ≡ suc (2 * (d - 4)) = omega (arith, four) in
+      rw k (read-low sixteen imaSteps (d - 4) (headOf own) (drop 4 own) inside ∙ ap (λ (b : ℕ). moved (before own d) (b % 16) .predictor) byte-is)
+
+  high-is : sample own (2 * d - 6) ≡ high .predictor
+  unfolding decodedChannel
+  high-is =
+      let k : 2 * d - 6 ≡ suc (2 * (d - 4) + 1) = omega (arith, four) in
+      rw k (read-high sixteen imaSteps (d - 4) (headOf own) (drop 4 own) inside ∙ ap (λ (b : ℕ). moved (moved (before own d) (b % 16)) (b / 16) .predictor) byte-is)
+
+  next-is : before own (suc d) ≡ high
+  next-is =
+      let k : suc d - 4 ≡ suc (d - 4) = omega (arith, four) in
+      ap (reads sixteen imaSteps (headOf own) (drop 4 own)) k
+      ∙ read-next sixteen imaSteps (d - 4) (headOf own) (drop 4 own) inside
+      ∙ ap (λ (b : ℕ). moved (moved (before own d) (b % 16)) (b / 16)) byte-is
+
+-- ---- the headers
+
+-- the first bytes of a channel are its header, which stands behind the headers before it
+pub head-is : {c m : ℕ} (bytes : List ℕ) → Shape c (length bytes) m → (ch : ℕ) → ch < c
+    → headOf (bytesIn c bytes ch) ≡ headed (getD bytes (4 * ch) 0) (getD bytes (4 * ch + 1) 0) (getD bytes (4 * ch + 2) 0)
+unfolding headOf
+head-is {c} bytes is ch l =
+    let hc : 0 < c = omega (arith, l) in
+    let at : (i : ℕ) → i < 4 → getD (bytesIn c bytes ch) i 0 ≡ getD bytes (4 * ch + i) 0 =
+    λ i h.
+    let p : byte c ch i ≡ 4 * ch + i = ap (byte c ch) (omega arith) ∙ in-group c hc 0 ch i h ∙ omega arith in
+    strand-at 4 c (omega arith) hc 0 bytes ch i (omega (arith, h, four-bytes is)) ∙ ap (λ (q : ℕ). getD bytes q 0) p in
+    let z : 4 * ch + 0 ≡ 4 * ch = omega arith in
+    rw (at 0 (omega arith), at 1 (omega arith), at 2 (omega arith), z) refl
+
+-- one channel's more
+pub heads-turn : (c : ℕ) (bytes : List ℕ) (ch : ℕ) (out : List ℤ) (states : List State) (st : State) (x : ℤ)
+    → ch < length out → ch < length states → st ≡ headOf (bytesIn c bytes ch) → x ≡ st .predictor
+    → Headed c bytes ch out states → Headed c bytes (ch + 1) (set out ch x) (set states ch st)
+heads-turn c bytes ch out states st x long some st-is x-is h e l =
+    cases (eqb e ch)
+    (λ t.
+    let same = eqb-true e ch t in
+    rw same (
+      getD-set-same states ch st (state (pos 0) 0) some ∙ st-is,
+      getD-set-same out ch x (pos 0) long ∙ x-is ∙ ap (λ (s : State). s .predictor) st-is,
+    ))
+    (λ t.
+    let other = eqb-false e ch t in
+    let (s-is, o-is) = h e (omega (arith, l, other)) in
+    (getD-set-other states ch e st (state (pos 0) 0) other ∙ s-is, getD-set-other out ch e x (pos 0) other ∙ o-is))
+
+-- ---- all channels
+
+abbrev frameIn : ℕ → List ℕ → ℕ → ℕ → ℤ
+frameIn c bytes e k = sample (bytesIn c bytes e) k
+
+abbrev beforeIn : ℕ → List ℕ → ℕ → ℕ → State
+beforeIn c bytes e d = before (bytesIn c bytes e) d
+
+-- the bytes before the place are decoded
+pub record Upto (c : ℕ) (bytes : List ℕ) (at : ℕ) (out : List ℤ) (states : List State) : Type 0 where
+  pub frames : Frames c (frameIn c bytes) at out
+  pub befores : States c (beforeIn c bytes) at states
+
+module _ (c : ℕ) (hc : 0 < c) (bytes : List ℕ) where
+  pub first : (out : List ℤ) (states : List State) → Headed c bytes c out states → Upto c bytes (4 * c) out states
+  unfolding decodedChannel decoded nibblesOf
+  first out states h =
+      record {
+        frames = frames-first c hc (frameIn c bytes) out (λ e l. h e l .1);
+        befores = states-first c hc (beforeIn c bytes) states (λ e l. h e l .0);
+      }
+
+  -- a byte, at its place: two samples of its channel, and the state behind them
+  pub turn : (ch d : ℕ) (out : List ℤ) (states : List State) (one two : State)
+      → ch < c → 4 ≤ d → d < length bytes / c → ch < length states → c * (2 * d - 7) + ch + c < length out
+      → let b = getD bytes (byte c ch d) 0 in
+      (s : State) → s ≡ getD states ch (record { predictor = pos 0; index = 0 })
+      → one ≡ moved s (b % 16) → two ≡ moved one (b / 16)
+      → Upto c bytes (byte c ch d) out states
+      → Upto c bytes (suc (byte c ch d)) (set (set out (c * (2 * d - 7) + ch) (one .predictor)) (c * (2 * d - 7) + ch + c) (two .predictor)) (set states ch two)
+  turn ch d out states one two l four h room long s s-is one-is two-is u =
+      let own = bytesIn c bytes ch in
+      let inside : d < length own = omega (arith, h, strand-length 4 c (omega arith) hc 0 bytes ch) in
+      let b-is = strand-at 4 c (omega arith) hc 0 bytes ch d h in
+      let now-is = s-is ∙ state-now c hc (beforeIn c bytes) ch d states l four (u .befores) in
+      let low-now : one ≡ low own d four inside = one-is ∙ ap₂ (λ (st : State) (b : ℕ). moved st (b % 16)) now-is (sym b-is) in
+      let high-now : two ≡ high own d four inside = two-is ∙ ap₂ (λ (st : State) (b : ℕ). moved st (b / 16)) low-now (sym b-is) in
+      record {
+        frames =
+            frames-turn c hc (frameIn c bytes) ch d out (one .predictor) (two .predictor) l four long
+            (ap (λ (st : State). st .predictor) low-now ∙ sym (low-is own d four inside))
+            (ap (λ (st : State). st .predictor) high-now ∙ sym (high-is own d four inside))
+            (u .frames);
+        befores = states-turn c hc (beforeIn c bytes) ch d states two l four room (high-now ∙ sym (next-is own d four inside)) (u .befores);
+      }
+
+  -- the same where the loops stand: the channel's state is in a variable of its own meanwhile
+  pub byte-turn : {g ch start end at : ℕ} (w : Bytes c (length bytes) g ch start end at) (l : at < end) (k : ℕ) (out : List ℤ) (states : List State) (st one two : State) (x y : ℤ)
+      → k ≡ c * (2 * own w l - 7) + ch → length out ≡ 2 * length bytes - 7 * c → ch < length states
+      → one ≡ moved st (getD bytes at 0 % 16) → two ≡ moved one (getD bytes at 0 / 16) → x ≡ one .predictor → y ≡ two .predictor
+      → Upto c bytes at out (set states ch st)
+      → Upto c bytes (at + 1) (set (set out k x) (k + c) y) (set states ch two)
+  byte-turn {g} {ch} {start} {end} {at} w l k out states st one two x y k-is long some one-is two-is x-is y-is u =
+      let zero-state = state (pos 0) 0 in
+      let d = own w l in
+      let here = own-place w l in
+      let there : suc (byte c ch d) ≡ at + 1 = omega (arith, here) in
+      let b-is = ap (λ (p : ℕ). getD bytes p 0) (sym here) in
+      let next =
+      turn ch d out (set states ch st) one two (w .channel) (four w l) (own-inside w l)
+      (omega (arith, some, length-set states ch st)) (omega (arith, room w l, long))
+      st (sym (getD-set-same states ch st zero-state some))
+      (one-is ∙ ap (λ (b : ℕ). moved st (b % 16)) b-is) (two-is ∙ ap (λ (b : ℕ). moved one (b / 16)) b-is)
+      (subst (λ (p : ℕ). Upto c bytes p out (set states ch st)) (sym here) u) in
+      rw (k-is, x-is, y-is)
+      (subst (λ (p : ℕ). Upto c bytes p (set (set out (c * (2 * d - 7) + ch) (one .predictor)) (c * (2 * d - 7) + ch + c) (two .predictor)) (set states ch two)) there
+      (subst (λ (sts : List State). Upto c bytes (suc (byte c ch d)) (set (set out (c * (2 * d - 7) + ch) (one .predictor)) (c * (2 * d - 7) + ch + c) (two .predictor)) sts) (set-set states ch st two) next))
+
+  pub ends : (out : List ℤ) (states : List State) → Shape c (length bytes) (length out) → Upto c bytes (length bytes) out states → out ≡ decodedBlock c bytes
+  unfolding decodedBlock
+  ends out states is u =
+      weaves 1 c (omega arith) hc (pos 0) (2 * length bytes - 7 * c) (λ e. decodedChannel (bytesIn c bytes e)) out (is .fits)
+      (λ e k l b.
+      let n = length bytes in
+      let inside = in-strand 1 c (omega arith) hc (length out) e k (even-samples is) l (omega (arith, b, is .fits)) in
+      let own : (k + 7) / 2 < n / c = omega (arith, inside, samples-each is, four-bytes is) in
+      rw (singly c e k) (u .frames e k l (in-list 4 c (omega arith) hc n e ((k + 7) / 2) (is .even) l own)))

@@ -1,0 +1,228 @@
+-- `ms_decode::groups` meets its contract: a byte gives two samples of its channel, at their places, and moves that channel's state alone;
+-- between the bytes the loops only pass on from whom to whom. Assumes nothing.
+use mathlib.Core.Path.{_≡_, refl, sym, ap, ap₂, _∙_, subst}
+use mathlib.Core.List.{List, map}
+use Prim.Native.Nat.{ℕ, suc, _+_, _-_, _*_, _/_, _≤_, _<_, min}
+use native.Mathlib.Omega.{arith}
+use lib.IntN.{pos}
+use lib.ListN.{length, getD, set, length-set, length-map}
+use mir.Syntax.{w16}
+use mir.Val.{SFits, toZ, ofZ}
+use mir.ValLaws.{toZ-ofZ}
+use borrow.Author.Needs.{needs}
+use Rattle.num.proofs.Lists.{map-set, map-kept}
+use Rattle.adpcm_ima.specs.Step.{sixteen, stepped}
+use Rattle.adpcm_ima.specs.Table.{imaSteps}
+use Rattle.adpcm_ima.specs.View.{wideOf}
+use Rattle.ms_layout.specs.Sizes.{most}
+use Rattle.ms_layout.proofs.Sizes.{Shape, shape}
+use Rattle.ms_decode.proofs.Read.{Upto, first, byte-turn, ends}
+use Rattle.ms_block.proofs.Walk.{Groups, Channels, Bytes, groups-first, channels-first, bytes-first, bytes-next, channels-next, groups-next, frames-first, frames-next, own, four, own-place, own-inside, frame-is, room}
+use Rattle.ms_decode.proofs.groups.Statement.{statement}
+use Rattle.ms_decode.proofs.groups.Tie as tie
+
+abbrev Inv-loop2 : tie.InvT-loop2
+Inv-loop2 c buf out-samples₀ steps n wides at₀ g ch end wide₀ k₀ out-samples at wide k =
+    Upto c buf at out-samples (set (map wideOf wides) ch (wideOf wide))
+    × Bytes c n g ch at₀ end at
+    × (length out-samples ≡ 2 * n - 7 * c)
+    × (length wides ≡ most)
+    × (k ≡ c * (8 * g + 1 + 2 * (at - at₀)) + ch)
+
+abbrev μ-loop2 : tie.MeasureT-loop2
+μ-loop2 c buf out-samples₀ steps n wides at₀ g ch end wide₀ k₀ out-samples at wide k = end - at
+
+abbrev Inv-loop : tie.InvT-loop
+Inv-loop c buf out-samples₀ steps n wides₀ at₀ g ch₀ out-samples wides at ch =
+    Upto c buf at out-samples (map wideOf wides)
+    × Channels c n g ch at
+    × (length out-samples ≡ 2 * n - 7 * c)
+    × (length wides ≡ most)
+
+abbrev μ-loop : tie.MeasureT-loop
+μ-loop c buf out-samples₀ steps n wides₀ at₀ g ch₀ out-samples wides at ch = c - ch
+
+abbrev Inv-block : tie.InvT-block
+Inv-block c buf out-samples₀ steps n wides₀ at₀ g₀ out-samples wides at g =
+    Upto c buf at out-samples (map wideOf wides)
+    × Groups c n g at
+    × (length out-samples ≡ 2 * n - 7 * c)
+    × (length wides ≡ most)
+
+abbrev μ-block : tie.MeasureT-block
+μ-block c buf out-samples₀ steps n wides₀ at₀ g₀ out-samples wides at g = n - g
+
+-- the lengths
+sizes : (c : tie.Start Inv-loop2 μ-loop2 Inv-loop μ-loop Inv-block μ-block) → let a = c .args in Shape (a .c) (length (a .buf .now)) (length (a .out-samples .now))
+sizes c = let a = c .args in shape (a .c) (length (a .buf .now)) (length (a .out-samples .now)) (c .pre .0)
+
+mul-at : tie.Need-mul-at Inv-loop2 μ-loop2 Inv-loop μ-loop Inv-block μ-block
+mul-at c = let is = sizes (c .before) in omega (arith, is .few)
+
+block-holds : tie.Need-block-holds Inv-loop2 μ-loop2 Inv-loop μ-loop Inv-block μ-block
+block-holds c =
+    let a = c .before .args in
+    let is = sizes (c .before) in
+    let size : length (a .heads) ≡ most = search needs in (
+      first (a .c) (omega (arith, is .some)) (a .buf .now) (a .out-samples .now) (map wideOf (a .heads)) (c .before .pre .1),
+      groups-first (subst (Shape (a .c) (length (a .buf .now))) (is .fits) is),
+      is .fits,
+      size,
+    )
+
+loop-holds : tie.Need-loop-holds Inv-loop2 μ-loop2 Inv-loop μ-loop Inv-block μ-block
+loop-holds c = let inv = c .block .inv in (inv .0, channels-first (c .block .g) (c .block .at) (inv .1), inv .2, inv .3)
+
+loop2-holds : tie.Need-loop2-holds Inv-loop2 μ-loop2 Inv-loop μ-loop Inv-block μ-block
+loop2-holds c =
+    let loop = c .before .before .before .before in
+    let wides = loop .loop .wides in
+    let ch = loop .loop .ch in
+    let inv = loop .loop .inv in (
+      subst (Upto (loop .before .before .before .args .c) (loop .before .before .before .args .buf .now) (loop .loop .at) (loop .loop .out-samples)) (map-kept wideOf wides ch (record { predictor = pos 0; index = 0 })) (inv .0),
+      bytes-first (loop .before .block .g) ch (loop .loop .at) (c .before .lesser .result) (inv .1) (c .before .before .before .loop-test .taken) (c .before .before .if1 .left) (c .before .lesser .ensures),
+      inv .2,
+      inv .3,
+      frames-first (loop .before .before .before .args .c) (loop .before .block .g) ch (loop .loop .at),
+    )
+
+-- where the two samples of a byte go
+places : (c : tie.In-loop2 Inv-loop2 μ-loop2 Inv-loop μ-loop Inv-block μ-block) → let at = c .before in let a = at .before .before .before .before .before .before .before .before .args in
+    (at .loop2 .k ≡ a .c * (2 * own (at .loop2 .inv .1) (c .loop2-test .taken) - 7) + at .before .before .before .before .before .loop .ch)
+    × (at .loop2 .k + a .c < length (at .loop2 .out-samples))
+    × (length (at .loop2 .out-samples) < 131072)
+places c =
+    let at = c .before in
+    let a = at .before .before .before .before .before .before .before .before .args in
+    let inv = at .loop2 .inv in
+    let h = c .loop2-test .taken in
+    let k-is = inv .4 ∙ ap (λ (f : ℕ). a .c * f + at .before .before .before .before .before .loop .ch) (sym (frame-is (inv .1) h)) in
+    (k-is, omega (arith, k-is, room (inv .1) h, inv .2), omega (arith, inv .2, inv .1 .block .short))
+
+mul-first : tie.Need-mul-first Inv-loop2 μ-loop2 Inv-loop μ-loop Inv-block μ-block
+mul-first c = omega (arith, places (c .before .before .before .before .before .before .before .before .before))
+
+slice-set-from-first : tie.Need-slice-set-from-first Inv-loop2 μ-loop2 Inv-loop μ-loop Inv-block μ-block
+slice-set-from-first c = omega (arith, places (c .before .before .before .before .before .before .before .before .before))
+
+add-second : tie.Need-add-second Inv-loop2 μ-loop2 Inv-loop μ-loop Inv-block μ-block
+add-second c = omega (arith, places (c .before .before .before .before .before .before .before .before .before))
+
+mul-second : tie.Need-mul-second Inv-loop2 μ-loop2 Inv-loop μ-loop Inv-block μ-block
+mul-second c = omega (arith, places (c .before .before .before .before .before .before .before .before .before))
+
+slice-set-from-second : tie.Need-slice-set-from-second Inv-loop2 μ-loop2 Inv-loop μ-loop Inv-block μ-block
+slice-set-from-second c = let at = c .before .before .before .before .before .before .before .before .before .before in omega (arith, places (c .before .before .before .before .before .before .before .before .before), length-set (at .loop2 .out-samples) (at .loop2 .k) (toZ w16 (ofZ w16 (c .before .before .before .before .before .moved .result .predictor))))
+
+add-k-3 : tie.Need-add-k-3 Inv-loop2 μ-loop2 Inv-loop μ-loop Inv-block μ-block
+add-k-3 c = omega (arith, places (c .before .before .before .before .before .before .before .before .before))
+
+loop2-less : tie.Need-loop2-less Inv-loop2 μ-loop2 Inv-loop μ-loop Inv-block μ-block
+loop2-less c = omega (arith, c .before .before .before .before .before .before .before .before .before .loop2-test .taken)
+
+loop2-again : tie.Need-loop2-again Inv-loop2 μ-loop2 Inv-loop μ-loop Inv-block μ-block
+unfolding imaSteps
+loop2-again c =
+    let at = c .before .before .before .before .before .before .before .before .before .before in
+    let loop = at .before .before .before .before .before in
+    let a = loop .before .before .before .args in
+    let inv = at .loop2 .inv in
+    let h = c .before .before .before .before .before .before .before .before .before .loop2-test .taken in
+    let out = at .loop2 .out-samples in
+    let wides = loop .loop .wides in
+    let one = c .before .before .before .before .before .moved .result in
+    let two = c .before .before .moved2 .result in
+    let f : SFits w16 (one .predictor) = search needs in
+    let s : SFits w16 (two .predictor) = search needs in (
+      byte-turn (a .c) (omega (arith, inv .1 .channel)) (a .buf .now) (inv .1) h (at .loop2 .k) out (map wideOf wides) (wideOf (at .loop2 .wide)) (wideOf one) (wideOf two)
+          (toZ w16 (ofZ w16 (one .predictor))) (toZ w16 (ofZ w16 (two .predictor)))
+          (places (c .before .before .before .before .before .before .before .before .before) .0) (inv .2) (omega (arith, inv .1 .channel, inv .1 .block .few, length-map wides wideOf, inv .3))
+          (c .before .before .before .before .before .moved .ensures ∙ ap (stepped sixteen imaSteps (wideOf (at .loop2 .wide))) (c .before .before .before .before .before .before .low-nibble .ensures)) (c .before .before .moved2 .ensures ∙ ap (stepped sixteen imaSteps (wideOf one)) (c .before .before .before .high-nibble .ensures)) (toZ-ofZ w16 _ f) (toZ-ofZ w16 _ s) (inv .0),
+      bytes-next (loop .before .block .g) (loop .loop .ch) (loop .loop .at) (at .before .before .lesser .result) (at .loop2 .at) (inv .1) h,
+      length-set (set out (at .loop2 .k) (toZ w16 (ofZ w16 (one .predictor)))) (at .loop2 .k + a .c) (toZ w16 (ofZ w16 (two .predictor))) ∙ length-set out (at .loop2 .k) (toZ w16 (ofZ w16 (one .predictor))) ∙ inv .2,
+      inv .3,
+      frames-next (a .c) (loop .before .block .g) (loop .loop .ch) (loop .loop .at) (at .loop2 .at) (at .loop2 .k) (inv .1 .begun) (inv .4),
+    )
+
+loop-less : tie.Need-loop-less Inv-loop2 μ-loop2 Inv-loop μ-loop Inv-block μ-block
+loop-less c = omega (arith, c .before .loop2 .inv .1 .channel)
+
+loop-again : tie.Need-loop-again Inv-loop2 μ-loop2 Inv-loop μ-loop Inv-block μ-block
+loop-again c =
+    let at = c .before in
+    let loop = at .before .before .before .before .before in
+    let inv = at .loop2 .inv in (
+      rw (map-set wideOf (loop .loop .wides) (loop .loop .ch) (at .loop2 .wide)) (inv .0),
+      channels-next (loop .before .block .g) (loop .loop .ch) (loop .loop .at) (at .before .before .lesser .result) (at .loop2 .at) (inv .1) (c .loop2-test .left),
+      inv .2,
+      length-set (loop .loop .wides) (loop .loop .ch) (at .loop2 .wide) ∙ inv .3,
+    )
+
+block-less : tie.Need-block-less Inv-loop2 μ-loop2 Inv-loop μ-loop Inv-block μ-block
+block-less c = let inv = c .before .before .block .inv .1 in omega (arith, inv .place, inv .small)
+
+block-again : tie.Need-block-again Inv-loop2 μ-loop2 Inv-loop μ-loop Inv-block μ-block
+block-again c =
+    let inv = c .before .loop .inv in
+    (inv .0, groups-next (c .before .before .block .g) (c .before .loop .ch) (c .before .loop .at) (inv .1) (c .loop-test .left), inv .2, inv .3)
+
+same-length : tie.Need-same-length Inv-loop2 μ-loop2 Inv-loop μ-loop Inv-block μ-block
+same-length c = let at = c .before .before in at .loop .inv .2 ∙ sym (sizes (at .before .before .before) .fits)
+
+returns : tie.Need-returns Inv-loop2 μ-loop2 Inv-loop μ-loop Inv-block μ-block
+returns c =
+    let loop = c .before .before in
+    let a = loop .before .before .before .args in
+    let inv = loop .loop .inv in
+    let n = length (a .buf .now) in
+    let is = inv .1 .block in
+    ends (a .c) (omega (arith, is .some)) (a .buf .now) (loop .loop .out-samples) (map wideOf (loop .loop .wides)) (subst (Shape (a .c) n) (sym (inv .2)) is)
+    (subst (λ (p : ℕ). Upto (a .c) (a .buf .now) p (loop .loop .out-samples) (map wideOf (loop .loop .wides))) (c .if1 .taken) (inv .0))
+
+pub groups-spec : {M : Type 1} → statement M
+groups-spec =
+    tie.close
+    (tie.spec
+    Inv-loop2
+    μ-loop2
+    Inv-loop
+    μ-loop
+    Inv-block
+    μ-block
+    mul-at
+    block-holds
+    loop-holds
+    (λ c. search needs)
+    (λ c κs. search needs)
+    (λ c. search needs)
+    (λ c. search needs)
+    (λ c. search needs)
+    (λ c. search needs)
+    (λ c. search needs)
+    (λ c. search needs)
+    loop2-holds
+    (λ c. search needs)
+    (λ c κs. search needs)
+    (λ c κs. search needs)
+    (λ c κs. search needs)
+    (λ c κs. search needs)
+    mul-first
+    slice-set-from-first
+    add-second
+    mul-second
+    slice-set-from-second
+    (λ c. search needs)
+    add-k-3
+    (λ c. search needs)
+    loop2-less
+    loop2-again
+    (λ c. search needs)
+    (λ c. search needs)
+    (λ c. search needs)
+    loop-less
+    loop-again
+    (λ c. search needs)
+    block-less
+    block-again
+    same-length
+    returns)

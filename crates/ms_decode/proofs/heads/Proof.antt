@@ -1,0 +1,88 @@
+-- `ms_decode::heads` meets its contract: a turn reads one channel's header. Assumes nothing.
+use mathlib.Core.Path.{_≡_, refl, sym, _∙_, subst}
+use mathlib.Core.List.{map}
+use Prim.Native.Nat.{_+_, _-_, _*_, _≤_, _<_}
+use native.Mathlib.Omega.{arith}
+use lib.ListN.{length, getD, set, length-set, length-map}
+use mir.Syntax.{w16}
+use mir.Val.{SFits, toZ, ofZ}
+use mir.ValLaws.{toZ-ofZ}
+use borrow.Author.Needs.{needs}
+use Rattle.num.proofs.Lists.{map-set}
+use Rattle.adpcm_ima.specs.View.{wideOf}
+use Rattle.ms_layout.specs.Sizes.{most}
+use Rattle.ms_layout.proofs.Sizes.{Shape, shape, samples-all}
+use Rattle.ms_decode.specs.Progress.{Headed}
+use Rattle.ms_decode.proofs.Read.{head-is, heads-turn}
+use Rattle.ms_decode.proofs.heads.Statement.{statement}
+use Rattle.ms_decode.proofs.heads.Tie as tie
+
+abbrev Inv-loop : tie.InvT-loop
+Inv-loop c buf out-samples₀ wides₀ ch₀ out-samples wides ch =
+    Headed c buf ch out-samples (map wideOf wides)
+    × Shape c (length buf) (length out-samples)
+    × (length out-samples ≡ length out-samples₀)
+    × (length wides ≡ most)
+    × (ch ≤ c)
+
+abbrev μ-loop : tie.MeasureT-loop
+μ-loop c buf out-samples₀ wides₀ ch₀ out-samples wides ch = c - ch
+
+loop-holds : tie.Need-loop-holds Inv-loop μ-loop
+loop-holds c =
+    let s = c .before .before .before in
+    let a = s .args in
+    ((λ e l. absurd (omega (arith, l))), shape (a .c) (length (a .buf .now)) (length (a .out-samples .now)) (s .pre), refl, refl, omega arith)
+
+loop-again : tie.Need-loop-again Inv-loop μ-loop
+loop-again c =
+    let at = c .before .before .before .before .before .before .before in
+    let a = at .before .before .before .before .args in
+    let inv = at .loop .inv in
+    let ch = at .loop .ch in
+    let h = c .before .before .before .before .before .before .loop-test .taken in
+    let out = at .loop .out-samples in
+    let wides = at .loop .wides in
+    let wide = c .before .of2 .result in
+    let x = toZ w16 (ofZ w16 (wide .predictor)) in
+    let f : SFits w16 (wide .predictor) = search needs in
+    let long = length-set out ch x in
+    let st-is = c .before .of2 .ensures .0 ∙ c .before .before .head2 .ensures ∙ sym (head-is (a .buf .now) (inv .1) ch h) in
+    let turn = heads-turn (a .c) (a .buf .now) ch out (map wideOf wides) (wideOf wide) x (omega (arith, h, samples-all (inv .1))) (omega (arith, h, inv .1 .few, inv .3, length-map wides wideOf)) st-is (toZ-ofZ w16 _ f) (inv .0) in
+    (rw (map-set wideOf wides ch wide) turn, subst (Shape (a .c) (length (a .buf .now))) (sym long) (inv .1), long ∙ inv .2, length-set wides ch wide ∙ inv .3, omega (arith, h))
+
+same-length : tie.Need-same-length Inv-loop μ-loop
+same-length c = c .before .loop .inv .2
+
+returns : tie.Need-returns Inv-loop μ-loop
+returns c =
+    λ e l. c .before .loop .inv .0 e (omega (arith, l, c .loop-test .left))
+
+pub heads-spec : {M : Type 1} → statement M
+heads-spec =
+    tie.close
+    (tie.spec
+    Inv-loop
+    μ-loop
+    (λ c κs. search needs)
+    (λ c κs. search needs)
+    loop-holds
+    (λ c. search needs)
+    (λ c. search needs)
+    (λ c. search needs)
+    (λ c. search needs)
+    (λ c. search needs)
+    (λ c. search needs)
+    (λ c. search needs)
+    (λ c. search needs)
+    (λ c κs. search needs)
+    (λ c κs. search needs)
+    (λ c. search needs)
+    (λ c. search needs)
+    (λ c. search needs)
+    (λ c. search needs)
+    (λ c. search needs)
+    (λ c. search needs)
+    loop-again
+    same-length
+    returns)

@@ -1,0 +1,84 @@
+// A block to samples. Each channel starts from its header, so no state goes in or comes back.
+use adpcm_ima::IMA_STEP_TABLE;
+use adpcm_ima::Wide;
+use ms_layout::MOST;
+use ms_layout::head;
+use ms_layout::refusal;
+use num::high_nibble;
+use num::lesser;
+use num::low_nibble;
+ghost use mathlib.Core.Path.{_≡_};
+ghost use mathlib.Core.List.{[], map};
+ghost use lib.ListN.{length};
+ghost use Rattle.adpcm_ima.specs.View.{wideOf};
+ghost use Rattle.ms_layout.specs.Sizes.{Taken};
+ghost use Rattle.ms_block.specs.Block.{decodedBlock};
+ghost use Rattle.ms_block.specs.Call.{answered, decodeBlock};
+ghost use Rattle.ms_decode.specs.Progress.{Headed};
+
+// The number is 0 for done, or of a refusal, and then nothing is written.
+pub fn decode_adpcm_ima_ms(channels: u8, buf: &[u8], out_samples: &mut [i16]) -> u8
+    ensures { λ r. ⌜ answered r [] (now («out_samples» .exit)) ≡ decodeBlock channels (now (buf .entry)) (now («out_samples» .entry)) ⌝ }
+{
+    let c = channels as usize;
+    let number = refusal(c, buf.len(), out_samples.len());
+    if number == 0 {
+        let heads = heads(c, buf, out_samples);
+        groups(c, buf, heads, out_samples);
+    }
+    number
+}
+
+// Every channel's header: its state, and its first sample.
+fn heads(c: usize, buf: &[u8], out_samples: &mut [i16]) -> [Wide; MOST]
+    requires { ⌜ Taken c (length (now buf)) (length (now «out_samples»)) ⌝ }
+    ensures { λ r. ⌜ Headed c (now (buf .entry)) c (now («out_samples» .exit)) (map wideOf r) ⌝ }
+{
+    let mut wides = [Wide::of(head(0, 0, 0)); MOST];
+    let mut ch = 0;
+    while ch < c {
+        let wide = Wide::of(head(buf[4 * ch], buf[4 * ch + 1], buf[4 * ch + 2]));
+        let first = wide.predictor;
+        out_samples[ch] = first;
+        wides[ch] = wide;
+        ch += 1;
+    }
+    wides
+}
+
+// Group by group, four bytes of each channel in turn. A channel's last group may be shorter.
+fn groups(c: usize, buf: &[u8], heads: [Wide; MOST], out_samples: &mut [i16])
+    requires { ⌜ Taken c (length (now buf)) (length (now «out_samples»)) × Headed c (now buf) c (now «out_samples») (map wideOf heads) ⌝ }
+    ensures { λ r. ⌜ now («out_samples» .exit) ≡ decodedBlock c (now (buf .entry)) ⌝ }
+{
+    let steps = IMA_STEP_TABLE;
+    let n = buf.len();
+    let mut wides = heads;
+    let mut at = 4 * c;
+    let mut g = 0;
+    'block: loop {
+        let mut ch = 0;
+        while ch < c {
+            if at == n {
+                break 'block;
+            }
+            let end = lesser(at + 4, n);
+            let mut wide = wides[ch];
+            let mut k = c * (8 * g + 1) + ch;
+            while at < end {
+                let byte = buf[at];
+                let between = wide.moved(&steps, low_nibble(byte));
+                wide = between.moved(&steps, high_nibble(byte));
+                let first = between.predictor;
+                let second = wide.predictor;
+                out_samples[k] = first;
+                out_samples[k + c] = second;
+                k += 2 * c;
+                at += 1;
+            }
+            wides[ch] = wide;
+            ch += 1;
+        }
+        g += 1;
+    }
+}

@@ -1,0 +1,265 @@
+-- `ms_encode::groups` meets its contract: two samples of a channel give the byte at its place, and move that channel's state alone;
+-- between the bytes the loops only pass on from whom to whom. The inner loops do not see the states that the block starts from, so theirs is an implication from any. Assumes nothing.
+use mathlib.Core.Path.{_≡_, refl, sym, ap, ap₂, _∙_, subst}
+use mathlib.Core.List.{List, map}
+use Prim.Native.Nat.{ℕ, suc, _+_, _-_, _*_, _/_, _≤_, _<_, min}
+use native.Mathlib.Omega.{arith}
+use lib.IntN.{ℤ, pos}
+use lib.ListN.{length, getD, set, length-set, length-map}
+use mir.Syntax.{w16}
+use mir.Val.{SFits, toZ, ofZ}
+use mir.ValLaws.{toZ-ofZ}
+use borrow.Author.Needs.{needs}
+use Rattle.num.proofs.Lists.{map-set, map-kept}
+use Rattle.adpcm_ima.specs.Step.{State, sixteen, stepped, emitted}
+use Rattle.adpcm_ima.specs.Table.{imaSteps}
+use Rattle.adpcm_ima.specs.declared.AdpcmImaState.{AdpcmImaState}
+use Rattle.adpcm_ima.specs.View.{stateOf, wideOf}
+use Rattle.adpcm_ima.proofs.Bounds.{moved-lt, narrow-below}
+use Rattle.ms_layout.specs.Sizes.{most}
+use Rattle.ms_layout.proofs.Sizes.{Shape, shape}
+use Rattle.ms_block.proofs.Walk.{Groups, Channels, Bytes, groups-first, channels-first, bytes-first, bytes-next, channels-next, groups-next, frames-first, frames-next, own, frame-is, room}
+use Rattle.ms_encode.proofs.Write.{Upto, first, byte-turn, ends}
+use Rattle.ms_encode.proofs.groups.Statement.{statement}
+use Rattle.ms_encode.proofs.groups.Tie as tie
+
+abbrev Inv-loop2 : tie.InvT-loop2
+Inv-loop2 c samples out-buf₀ steps n states at₀ g ch end wide₀ k₀ out-buf at wide k =
+    ((starts : List State) → Upto c samples starts at₀ out-buf₀ (set (map stateOf states) ch (wideOf wide₀)) → Upto c samples starts at out-buf (set (map stateOf states) ch (wideOf wide)))
+    × Bytes c n g ch at₀ end at
+    × (length samples ≡ 2 * n - 7 * c)
+    × (length out-buf ≡ n)
+    × (length states ≡ most)
+    × (k ≡ c * (8 * g + 1 + 2 * (at - at₀)) + ch)
+    × (wide .index < 256)
+
+abbrev μ-loop2 : tie.MeasureT-loop2
+μ-loop2 c samples out-buf₀ steps n states at₀ g ch end wide₀ k₀ out-buf at wide k = end - at
+
+abbrev Inv-loop : tie.InvT-loop
+Inv-loop c samples out-buf₀ steps n states₀ at₀ g ch₀ out-buf states at ch =
+    ((starts : List State) → Upto c samples starts at₀ out-buf₀ (map stateOf states₀) → Upto c samples starts at out-buf (map stateOf states))
+    × Channels c n g ch at
+    × (length samples ≡ 2 * n - 7 * c)
+    × (length out-buf ≡ n)
+    × (length states ≡ most)
+
+abbrev μ-loop : tie.MeasureT-loop
+μ-loop c samples out-buf₀ steps n states₀ at₀ g ch₀ out-buf states at ch = c - ch
+
+abbrev Inv-block : tie.InvT-block
+Inv-block c samples out-buf₀ steps n states₀ at₀ g₀ out-buf states at g =
+    Upto c samples (map stateOf states₀) at out-buf (map stateOf states)
+    × Groups c n g at
+    × (length samples ≡ 2 * n - 7 * c)
+    × (length out-buf ≡ n)
+    × (length states ≡ most)
+
+abbrev μ-block : tie.MeasureT-block
+μ-block c samples out-buf₀ steps n states₀ at₀ g₀ out-buf states at g = n - g
+
+-- the lengths
+sizes : (c : tie.Start Inv-loop2 μ-loop2 Inv-loop μ-loop Inv-block μ-block) → let a = c .args in Shape (a .c) (length (a .out-buf .now)) (length (a .samples .now))
+sizes c = let a = c .args in shape (a .c) (length (a .out-buf .now)) (length (a .samples .now)) (c .pre .0)
+
+mul-at : tie.Need-mul-at Inv-loop2 μ-loop2 Inv-loop μ-loop Inv-block μ-block
+mul-at c = let is = sizes (c .before) in omega (arith, is .few)
+
+block-holds : tie.Need-block-holds Inv-loop2 μ-loop2 Inv-loop μ-loop Inv-block μ-block
+block-holds c =
+    let a = c .before .args in
+    let is = sizes (c .before) in
+    let some : length (a .given) ≡ most = search needs in (
+      first (a .c) (omega (arith, is .some)) (a .samples .now) (map stateOf (a .given)) (a .out-buf .now) (c .before .pre .1),
+      groups-first (subst (Shape (a .c) (length (a .out-buf .now))) (is .fits) is),
+      is .fits,
+      refl,
+      some,
+    )
+
+loop-holds : tie.Need-loop-holds Inv-loop2 μ-loop2 Inv-loop μ-loop Inv-block μ-block
+loop-holds c = let inv = c .block .inv in ((λ starts u. u), channels-first (c .block .g) (c .block .at) (inv .1), inv .2, inv .3, inv .4)
+
+loop2-holds : tie.Need-loop2-holds Inv-loop2 μ-loop2 Inv-loop μ-loop Inv-block μ-block
+loop2-holds c =
+    let loop = c .before .before .before .before .before in
+    let inv = loop .loop .inv in (
+      (λ starts u. u),
+      bytes-first (loop .before .block .g) (loop .loop .ch) (loop .loop .at) (c .before .before .lesser .result) (inv .1) (c .before .before .before .before .loop-test .taken) (c .before .before .before .if1 .left) (c .before .before .lesser .ensures),
+      inv .2,
+      inv .3,
+      inv .4,
+      frames-first (loop .before .before .before .args .c) (loop .before .block .g) (loop .loop .ch) (loop .loop .at),
+      c .of .ensures .1,
+    )
+
+-- where the two samples of a byte stand
+places : (c : tie.In-loop2 Inv-loop2 μ-loop2 Inv-loop μ-loop Inv-block μ-block) → let at = c .before in let a = at .before .before .before .before .before .before .before .before .before .args in
+    (at .loop2 .k ≡ a .c * (2 * own (at .loop2 .inv .1) (c .loop2-test .taken) - 7) + at .before .before .before .before .before .before .loop .ch)
+    × (at .loop2 .k + a .c < length (a .samples .now))
+    × (length (a .samples .now) < 131072)
+places c =
+    let at = c .before in
+    let a = at .before .before .before .before .before .before .before .before .before .args in
+    let inv = at .loop2 .inv in
+    let h = c .loop2-test .taken in
+    let k-is = inv .5 ∙ ap (λ (f : ℕ). a .c * f + at .before .before .before .before .before .before .loop .ch) (sym (frame-is (inv .1) h)) in
+    (k-is, omega (arith, k-is, room (inv .1) h, inv .2), omega (arith, inv .2, inv .1 .block .short))
+
+mul-nibble : tie.Need-mul-nibble Inv-loop2 μ-loop2 Inv-loop μ-loop Inv-block μ-block
+mul-nibble c = omega (arith, places (c .before))
+
+shared-slice-copy-out-nibble : tie.Need-shared-slice-copy-out-nibble Inv-loop2 μ-loop2 Inv-loop μ-loop Inv-block μ-block
+shared-slice-copy-out-nibble c = omega (arith, places (c .before))
+
+add-nibble : tie.Need-add-nibble Inv-loop2 μ-loop2 Inv-loop μ-loop Inv-block μ-block
+add-nibble c = omega (arith, places (c .before .before .before .before .before .before))
+
+mul-nibble-2 : tie.Need-mul-nibble-2 Inv-loop2 μ-loop2 Inv-loop μ-loop Inv-block μ-block
+mul-nibble-2 c = omega (arith, places (c .before .before .before .before .before .before))
+
+shared-slice-copy-out-nibble-2 : tie.Need-shared-slice-copy-out-nibble-2 Inv-loop2 μ-loop2 Inv-loop μ-loop Inv-block μ-block
+shared-slice-copy-out-nibble-2 c = omega (arith, places (c .before .before .before .before .before .before))
+
+add-k-3 : tie.Need-add-k-3 Inv-loop2 μ-loop2 Inv-loop μ-loop Inv-block μ-block
+add-k-3 c = omega (arith, places (c .before .before .before .before .before .before .before .before .before .before .before))
+
+loop2-less : tie.Need-loop2-less Inv-loop2 μ-loop2 Inv-loop μ-loop Inv-block μ-block
+loop2-less c = omega (arith, c .before .before .before .before .before .before .before .before .before .before .before .loop2-test .taken)
+
+loop2-again : tie.Need-loop2-again Inv-loop2 μ-loop2 Inv-loop μ-loop Inv-block μ-block
+unfolding imaSteps
+loop2-again c =
+    let at = c .before .before .before .before .before .before .before .before .before .before .before .before in
+    let loop = at .before .before .before .before .before .before in
+    let a = loop .before .before .before .args in
+    let inv = at .loop2 .inv in
+    let h = c .before .before .before .before .before .before .before .before .before .before .before .loop2-test .taken in
+    let k = at .loop2 .k in
+    let out = at .loop2 .out-buf in
+    let samples = a .samples .now in
+    let states = loop .loop .states in
+    let w = wideOf (at .loop2 .wide) in
+    let low = c .before .before .before .before .before .before .before .before .nibble in
+    let one = c .before .before .before .before .before .before .moved in
+    let high = c .before .before .before .nibble2 in
+    let two = c .before .moved2 in
+    let f : SFits w16 (getD samples k (pos 0)) = search (needs, c .before .before .before .before .before .before .before .before .before .nibble-arg .given) in
+    let s : SFits w16 (getD samples (k + a .c) (pos 0)) = search (needs, c .before .before .before .before .nibble-arg2 .given) in
+    let x = toZ w16 (ofZ w16 (getD samples k (pos 0))) in
+    let y = toZ w16 (ofZ w16 (getD samples (k + a .c) (pos 0))) in
+    let one-is = one .ensures ∙ ap (stepped sixteen imaSteps w) (low .ensures .0) in
+    let two-is = two .ensures ∙ ap (stepped sixteen imaSteps (wideOf (one .result))) (high .ensures .0) in
+    let some : loop .loop .ch < length (map stateOf states) = omega (arith, inv .1 .channel, inv .1 .block .few, length-map states stateOf, inv .4) in
+    let is = subst (Shape (a .c) (length (a .out-buf .now))) (sym (inv .2)) (inv .1 .block) in
+    let b-is : c .pack .result ≡ 16 * high .result + low .result = c .pack .ensures ∙ omega (arith, low .ensures .1, high .ensures .1) in (
+      (λ starts u. byte-turn samples starts is (inv .1) h k out (map stateOf states) w (wideOf (one .result)) (wideOf (two .result)) x y (c .pack .result) (inv .3) some
+          (places (c .before .before .before .before .before .before .before .before .before .before .before) .0) (toZ-ofZ w16 _ f) (toZ-ofZ w16 _ s) one-is two-is (b-is ∙ ap₂ (λ (v u : ℕ). 16 * v + u) (high .ensures .0) (low .ensures .0)) (inv .0 starts u)),
+      bytes-next (loop .before .block .g) (loop .loop .ch) (loop .loop .at) (at .before .before .before .lesser .result) (at .loop2 .at) (inv .1) h,
+      inv .2,
+      length-set out (at .loop2 .at) (c .pack .result) ∙ inv .3,
+      inv .4,
+      frames-next (a .c) (loop .before .block .g) (loop .loop .ch) (loop .loop .at) (at .loop2 .at) k (inv .1 .begun) (inv .5),
+      moved-lt imaSteps (wideOf (one .result)) (wideOf (two .result)) (high .result) (two .ensures),
+    )
+
+loop-less : tie.Need-loop-less Inv-loop2 μ-loop2 Inv-loop μ-loop Inv-block μ-block
+loop-less c = omega (arith, c .before .before .loop2 .inv .1 .channel)
+
+loop-again : tie.Need-loop-again Inv-loop2 μ-loop2 Inv-loop μ-loop Inv-block μ-block
+loop-again c =
+    let at = c .before .before in
+    let loop = at .before .before .before .before .before .before in
+    let a = loop .before .before .before .args in
+    let inv = at .loop2 .inv in
+    let states = loop .loop .states in
+    let ch = loop .loop .ch in
+    let st = c .narrowed .ensures ∙ narrow-below (wideOf (at .loop2 .wide)) (inv .6) in
+    let d : AdpcmImaState = record { predictor = pos 0; «step_index» = 0 } in
+    let kept = map-kept stateOf states ch d ∙ ap (set (map stateOf states) ch) (sym (at .before .of .ensures .0)) in
+    let back = ap (set (map stateOf states) ch) (sym st) ∙ sym (map-set stateOf states ch (c .narrowed .result)) in (
+      (λ starts u. subst (Upto (a .c) (a .samples .now) starts (at .loop2 .at) (at .loop2 .out-buf)) back
+          (inv .0 starts (subst (Upto (a .c) (a .samples .now) starts (loop .loop .at) (loop .loop .out-buf)) kept (loop .loop .inv .0 starts u)))),
+      channels-next (loop .before .block .g) ch (loop .loop .at) (at .before .before .before .lesser .result) (at .loop2 .at) (inv .1) (c .before .loop2-test .left),
+      inv .2,
+      inv .3,
+      length-set states ch (c .narrowed .result) ∙ inv .4,
+    )
+
+block-less : tie.Need-block-less Inv-loop2 μ-loop2 Inv-loop μ-loop Inv-block μ-block
+block-less c = let inv = c .before .before .block .inv .1 in omega (arith, inv .place, inv .small)
+
+block-again : tie.Need-block-again Inv-loop2 μ-loop2 Inv-loop μ-loop Inv-block μ-block
+block-again c =
+    let inv = c .before .loop .inv in (
+      inv .0 _ (c .before .before .block .inv .0),
+      groups-next (c .before .before .block .g) (c .before .loop .ch) (c .before .loop .at) (inv .1) (c .loop-test .left),
+      inv .2,
+      inv .3,
+      inv .4,
+    )
+
+same-length : tie.Need-same-length Inv-loop2 μ-loop2 Inv-loop μ-loop Inv-block μ-block
+same-length c = c .before .before .loop .inv .3
+
+returns : tie.Need-returns Inv-loop2 μ-loop2 Inv-loop μ-loop Inv-block μ-block
+returns c =
+    let loop = c .before .before in
+    let a = loop .before .before .before .args in
+    let inv = loop .loop .inv in
+    let starts = map stateOf (a .given) in
+    let states = map stateOf (loop .loop .states) in
+    let is = subst (Shape (a .c) (length (a .out-buf .now))) (sym (inv .2)) (inv .1 .block) in
+    let u = inv .0 starts (loop .before .block .inv .0) in
+    ends (a .samples .now) starts is (loop .loop .out-buf) states (subst (λ (p : ℕ). Upto (a .c) (a .samples .now) starts p (loop .loop .out-buf) states) (c .if1 .taken) u) (inv .3) (length-map (loop .loop .states) stateOf ∙ inv .4)
+
+pub groups-spec : {M : Type 1} → statement M
+groups-spec =
+    tie.close
+    (tie.spec
+    Inv-loop2
+    μ-loop2
+    Inv-loop
+    μ-loop
+    Inv-block
+    μ-block
+    mul-at
+    block-holds
+    loop-holds
+    (λ c. search needs)
+    (λ c κs. search needs)
+    (λ c. search needs)
+    (λ c. search needs)
+    (λ c κs. search needs)
+    (λ c. search needs)
+    (λ c. search needs)
+    (λ c. search needs)
+    (λ c. search needs)
+    loop2-holds
+    mul-nibble
+    shared-slice-copy-out-nibble
+    (λ c κs. search needs)
+    (λ c κs. search needs)
+    add-nibble
+    mul-nibble-2
+    shared-slice-copy-out-nibble-2
+    (λ c κs. search needs)
+    (λ c κs. search needs)
+    (λ c κs. search needs)
+    (λ c. search needs)
+    (λ c. search needs)
+    add-k-3
+    (λ c. search needs)
+    loop2-less
+    loop2-again
+    (λ c κs. search needs)
+    (λ c. search needs)
+    (λ c. search needs)
+    (λ c. search needs)
+    loop-less
+    loop-again
+    (λ c. search needs)
+    block-less
+    block-again
+    same-length
+    returns)

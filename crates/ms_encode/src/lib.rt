@@ -1,0 +1,116 @@
+// Samples to a block. The states go in by value, and come back in one array.
+use adpcm_ima::AdpcmImaState;
+use adpcm_ima::IMA_STEP_TABLE;
+use adpcm_ima::Wide;
+use ms_layout::MOST;
+use ms_layout::refusal;
+use num::bits_of;
+use num::lesser;
+use num::pack;
+ghost use mathlib.Core.Path.{_≡_};
+ghost use mathlib.Core.List.{map};
+ghost use Prim.Native.Nat.{_*_};
+ghost use lib.ListN.{length, take};
+ghost use Rattle.adpcm_ima.specs.View.{stateOf};
+ghost use Rattle.ms_block.specs.Block.{begun, blockFrom, statesFrom, encodedBlock};
+ghost use Rattle.ms_block.specs.Call.{answered, encodeBlock};
+ghost use Rattle.ms_layout.specs.Sizes.{Taken};
+
+// `refusal` is 0 for done. A refusal hands the states back as they came, and leaves the buffer alone.
+pub struct Answer {
+    pub refusal: u8,
+    pub states: [AdpcmImaState; MOST],
+}
+
+pub fn encode_adpcm_ima_ms(
+    channels: u8,
+    samples: &[i16],
+    states: [AdpcmImaState; MOST],
+    out_buf: &mut [u8],
+) -> Answer
+    ensures { λ r. ⌜ answered (r .refusal) (map stateOf (r .states)) (now («out_buf» .exit)) ≡ encodeBlock channels (now (samples .entry)) (map stateOf states) (now («out_buf» .entry)) ⌝ }
+{
+    let c = channels as usize;
+    let number = refusal(c, out_buf.len(), samples.len());
+    if number == 0 {
+        let begun = heads(c, samples, states, out_buf);
+        let ended = groups(c, samples, begun, out_buf);
+        Answer {
+            refusal: 0,
+            states: ended,
+        }
+    } else {
+        Answer {
+            refusal: number,
+            states,
+        }
+    }
+}
+
+// Every channel's header: its predictor is the first sample, and its index stays as it came.
+fn heads(
+    c: usize,
+    samples: &[i16],
+    given: [AdpcmImaState; MOST],
+    out_buf: &mut [u8],
+) -> [AdpcmImaState; MOST]
+    requires { ⌜ Taken c (length (now «out_buf»)) (length (now samples)) ⌝ }
+    ensures { λ r. ⌜ (map stateOf r ≡ begun c (map stateOf given) (now (samples .entry))) × (take (4 * c) (now («out_buf» .exit)) ≡ take (4 * c) (encodedBlock c (map stateOf given) (now (samples .entry)))) ⌝ }
+{
+    let mut states = given;
+    let mut ch = 0;
+    while ch < c {
+        let first = samples[ch];
+        let state = states[ch];
+        let index = state.step_index;
+        let bits = bits_of(first);
+        out_buf[4 * ch] = (bits % 256) as u8;
+        out_buf[4 * ch + 1] = (bits / 256) as u8;
+        out_buf[4 * ch + 2] = index;
+        out_buf[4 * ch + 3] = 0;
+        states[ch] = state.reloaded(first, index);
+        ch += 1;
+    }
+    states
+}
+
+// Group by group, four bytes of each channel in turn. A channel's last group may be shorter.
+fn groups(
+    c: usize,
+    samples: &[i16],
+    given: [AdpcmImaState; MOST],
+    out_buf: &mut [u8],
+) -> [AdpcmImaState; MOST]
+    requires { ⌜ Taken c (length (now «out_buf»)) (length (now samples)) × (take (4 * c) (now «out_buf») ≡ take (4 * c) (blockFrom c (map stateOf given) (now samples))) ⌝ }
+    ensures { λ r. ⌜ (map stateOf r ≡ statesFrom c (map stateOf given) (now (samples .entry))) × (now («out_buf» .exit) ≡ blockFrom c (map stateOf given) (now (samples .entry))) ⌝ }
+{
+    let steps = IMA_STEP_TABLE;
+    let n = out_buf.len();
+    let mut states = given;
+    let mut at = 4 * c;
+    let mut g = 0;
+    'block: loop {
+        let mut ch = 0;
+        while ch < c {
+            if at == n {
+                break 'block;
+            }
+            let end = lesser(at + 4, n);
+            let mut wide = Wide::of(states[ch]);
+            let mut k = c * (8 * g + 1) + ch;
+            while at < end {
+                let low = wide.nibble(&steps, samples[k]);
+                let between = wide.moved(&steps, low);
+                let high = between.nibble(&steps, samples[k + c]);
+                wide = between.moved(&steps, high);
+                out_buf[at] = pack(low, high);
+                k += 2 * c;
+                at += 1;
+            }
+            states[ch] = wide.narrowed();
+            ch += 1;
+        }
+        g += 1;
+    }
+    states
+}
