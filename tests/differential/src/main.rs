@@ -7,6 +7,7 @@
 
 mod adpcm_ima;
 mod blocks;
+mod calls;
 mod cuts;
 mod exhaustive;
 mod ffi;

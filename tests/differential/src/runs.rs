@@ -2,7 +2,8 @@
 //! from each of the states too, and so is what nobody encoded.
 
 use crate::blocks::{State, BYTES, MOST, SAMPLES};
-use crate::outcome::{Call, Outcome, DECODE, ENCODE};
+use crate::calls::{Call, DECODE, ENCODE};
+use crate::outcome::Outcome;
 use crate::parallel::each;
 use crate::report::Report;
 use crate::signal::{noise, speech, Random};
