@@ -11,9 +11,12 @@ mod g711;
 mod ima4;
 #[path = "../../tests/differential/src/nibble.rs"]
 mod nibble;
+mod rounds;
 #[path = "../../tests/differential/src/signal.rs"]
 mod signal;
 mod timing;
+
+use rounds::Row;
 
 fn main() {
     let build = if cfg!(debug_assertions) {
@@ -26,7 +29,7 @@ fn main() {
     println!();
     values();
     println!();
-    runs();
+    blocks();
 }
 
 fn values() {
@@ -52,21 +55,30 @@ fn values() {
     );
 }
 
-fn runs() {
+fn blocks() {
+    let ima4 = ima4::contents();
+    let mut rows = ima4::rows(&ima4);
+    eprintln!("timing runs of ima4 ..");
+    rounds::time(&mut rows);
+
     println!(
         "Nanoseconds a sample, the best of {} runs over {} blocks.",
-        ima4::RUNS,
+        rounds::RUNS,
         ima4::BLOCKS
     );
+    table("blocks a call", &rows);
+}
+
+fn table(number: &str, rows: &[Row]) {
     println!();
-    println!("| call | samples | blocks a call | ours | Rust | ours / Rust |");
+    println!("| call | samples | {number} | ours | Rust | ours / Rust |");
     println!("|---|---|---:|---:|---:|---:|");
-    for row in ima4::rows() {
+    for row in rows {
         println!(
             "| {} | {} | {} | {:.2} | {:.2} | {:.2} |",
             row.call,
             row.content,
-            row.blocks,
+            row.number,
             row.ours,
             row.rust,
             row.ours / row.rust
