@@ -16,6 +16,7 @@ mod headers;
 mod ima4;
 mod ledger;
 mod lengths;
+mod ms;
 mod nibble;
 mod outcome;
 mod packed;
@@ -47,6 +48,7 @@ fn main() -> ExitCode {
     let mut reports = g711::reports(chunks.is_some());
     reports.extend(adpcm_ima::reports(chunks.is_some()));
     reports.extend(ima4::reports(chunks.is_some()));
+    reports.extend(ms::reports(chunks.is_some()));
     reports.extend(chunks.map(exhaustive::encode));
     verdict(&reports)
 }
