@@ -1,6 +1,6 @@
 //! Times each call of the proved library and the oracle's, and prints Markdown tables: of the calls for
-//! one value, and of those for a run of blocks. What it is doing goes to standard error, so that
-//! standard output can go to a file.
+//! one value, of those for a run of ima4 blocks, and of those for an MS block. What it is doing goes to
+//! standard error, so that standard output can go to a file.
 
 mod adpcm_ima;
 #[path = "../../tests/differential/src/blocks.rs"]
@@ -9,6 +9,9 @@ mod blocks;
 mod ffi;
 mod g711;
 mod ima4;
+mod ms;
+#[path = "../../tests/differential/src/ms/block.rs"]
+mod ms_block;
 #[path = "../../tests/differential/src/nibble.rs"]
 mod nibble;
 mod rounds;
@@ -56,17 +59,28 @@ fn values() {
 }
 
 fn blocks() {
-    let ima4 = ima4::contents();
+    let (ima4, ms) = (ima4::contents(), ms::contents());
     let mut rows = ima4::rows(&ima4);
-    eprintln!("timing runs of ima4 ..");
+    let of_ima4 = rows.len();
+    rows.extend(ms::rows(&ms));
+    eprintln!("timing runs of ima4, and MS blocks ..");
     rounds::time(&mut rows);
+    let (of_ima4, of_ms) = rows.split_at(of_ima4);
 
     println!(
         "Nanoseconds a sample, the best of {} runs over {} blocks.",
         rounds::RUNS,
         ima4::BLOCKS
     );
-    table("blocks a call", &rows);
+    table("blocks a call", of_ima4);
+    println!();
+    println!(
+        "Nanoseconds a sample, the best of {} runs over {} blocks of one channel, or {} of two.",
+        rounds::RUNS,
+        ms::BLOCKS,
+        ms::BLOCKS / 2
+    );
+    table("channels", of_ms);
 }
 
 fn table(number: &str, rows: &[Row]) {

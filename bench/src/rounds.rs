@@ -18,7 +18,7 @@ pub const RUNS: usize = 201;
 pub struct Row<'a> {
     pub call: &'static str,
     pub content: &'static str,
-    /// Of blocks in a call.
+    /// Of blocks in a call, or of channels in a block.
     pub number: usize,
     pub ours: f64,
     pub rust: f64,
