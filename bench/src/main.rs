@@ -1,6 +1,6 @@
 //! Times each call of the proved library and the oracle's, and prints Markdown tables: of the calls for
-//! one value, and of those for a run of blocks. What it is doing goes to standard error, so that
-//! standard output can go to a file.
+//! one value, of those for a run of ima4 blocks, and of those for an MS block. What it is doing goes to
+//! standard error, so that standard output can go to a file.
 
 mod adpcm_ima;
 #[path = "../../tests/differential/src/blocks.rs"]
@@ -9,11 +9,17 @@ mod blocks;
 mod ffi;
 mod g711;
 mod ima4;
+mod ms;
+#[path = "../../tests/differential/src/ms/block.rs"]
+mod ms_block;
 #[path = "../../tests/differential/src/nibble.rs"]
 mod nibble;
+mod rounds;
 #[path = "../../tests/differential/src/signal.rs"]
 mod signal;
 mod timing;
+
+use rounds::Row;
 
 fn main() {
     let build = if cfg!(debug_assertions) {
@@ -26,7 +32,7 @@ fn main() {
     println!();
     values();
     println!();
-    runs();
+    blocks();
 }
 
 fn values() {
@@ -52,21 +58,41 @@ fn values() {
     );
 }
 
-fn runs() {
+fn blocks() {
+    let (ima4, ms) = (ima4::contents(), ms::contents());
+    let mut rows = ima4::rows(&ima4);
+    let of_ima4 = rows.len();
+    rows.extend(ms::rows(&ms));
+    eprintln!("timing runs of ima4, and MS blocks ..");
+    rounds::time(&mut rows);
+    let (of_ima4, of_ms) = rows.split_at(of_ima4);
+
     println!(
         "Nanoseconds a sample, the best of {} runs over {} blocks.",
-        ima4::RUNS,
+        rounds::RUNS,
         ima4::BLOCKS
     );
+    table("blocks a call", of_ima4);
     println!();
-    println!("| call | samples | blocks a call | ours | Rust | ours / Rust |");
+    println!(
+        "Nanoseconds a sample, the best of {} runs over {} blocks of one channel, or {} of two.",
+        rounds::RUNS,
+        ms::BLOCKS,
+        ms::BLOCKS / 2
+    );
+    table("channels", of_ms);
+}
+
+fn table(number: &str, rows: &[Row]) {
+    println!();
+    println!("| call | samples | {number} | ours | Rust | ours / Rust |");
     println!("|---|---|---:|---:|---:|---:|");
-    for row in ima4::rows() {
+    for row in rows {
         println!(
             "| {} | {} | {} | {:.2} | {:.2} | {:.2} |",
             row.call,
             row.content,
-            row.blocks,
+            row.number,
             row.ours,
             row.rust,
             row.ours / row.rust

@@ -2,8 +2,9 @@
 //! give what the whole gives.
 
 use crate::blocks::{State, BYTES, MOST, SAMPLES};
+use crate::calls::{Call, DECODE, ENCODE};
 use crate::nibble;
-use crate::outcome::{Call, Outcome, DECODE, ENCODE};
+use crate::outcome::Outcome;
 use crate::report::Report;
 use crate::runs::{contents, STATES};
 use crate::signal::speech;

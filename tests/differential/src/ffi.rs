@@ -24,6 +24,22 @@ mod c {
             bytes: *mut u8,
             bytes_len: usize,
         ) -> u8;
+        pub fn spr_decode_ms(
+            channels: u8,
+            block: *const u8,
+            block_len: usize,
+            samples: *mut i16,
+            samples_len: usize,
+        ) -> u8;
+        pub fn spr_encode_ms(
+            channels: u8,
+            samples: *const i16,
+            samples_len: usize,
+            predictors: *mut i16,
+            step_indices: *mut u8,
+            block: *mut u8,
+            block_len: usize,
+        ) -> u8;
     }
 }
 
@@ -87,4 +103,32 @@ pub fn encode_ima4(
     let (len, bytes_len) = (samples.len(), bytes.len());
     let (samples, bytes) = (samples.as_ptr(), bytes.as_mut_ptr());
     unsafe { c::spr_encode_ima4(samples, len, predictor, step_index, bytes, bytes_len) }
+}
+
+// SAFETY of MS blocks: as of ima4. Each of the encoder's two pointers to states is to two numbers, of one
+// channel too.
+
+#[inline(always)]
+pub fn decode_ms(channels: u8, block: &[u8], samples: &mut [i16]) -> u8 {
+    let (len, samples_len) = (block.len(), samples.len());
+    let (block, samples) = (block.as_ptr(), samples.as_mut_ptr());
+    unsafe { c::spr_decode_ms(channels, block, len, samples, samples_len) }
+}
+
+#[inline(always)]
+pub fn encode_ms(
+    channels: u8,
+    samples: &[i16],
+    predictors: &mut [i16; 2],
+    step_indices: &mut [u8; 2],
+    block: &mut [u8],
+) -> u8 {
+    let (len, block_len) = (samples.len(), block.len());
+    let (samples, block) = (samples.as_ptr(), block.as_mut_ptr());
+    let (predictors, indices) = (predictors.as_mut_ptr(), step_indices.as_mut_ptr());
+    unsafe {
+        c::spr_encode_ms(
+            channels, samples, len, predictors, indices, block, block_len,
+        )
+    }
 }

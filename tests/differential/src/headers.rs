@@ -76,9 +76,9 @@ fn indices(header: u16) -> [u8; 9] {
 }
 
 /// One side's call on one block, as a function of plain values.
-fn one<A, B: Copy + From<u8>, const N: usize, const M: usize>(
-    run: impl Fn(&[A], &mut State, &mut [B]) -> u8,
-) -> impl Fn(([A; N], State)) -> (u8, State, [B; M]) {
+pub fn one<A, S, B: Copy + From<u8>, const N: usize, const M: usize>(
+    run: impl Fn(&[A], &mut S, &mut [B]) -> u8,
+) -> impl Fn(([A; N], S)) -> (u8, S, [B; M]) {
     move |(block, mut state)| {
         // what is not written is seen
         let mut out = [B::from(0x5a); M];
@@ -88,13 +88,13 @@ fn one<A, B: Copy + From<u8>, const N: usize, const M: usize>(
 }
 
 /// In speech most steps are small. In noise they are large, and samples are clipped.
-fn samples() -> Vec<i16> {
+pub fn samples() -> Vec<i16> {
     let len = POOL * SAMPLES;
     [speech(1, len), noise(2, len)].concat()
 }
 
 /// What speech is encoded to, and bytes at random, so that every nibble is met in every place.
-fn bodies() -> Vec<u8> {
+pub fn bodies() -> Vec<u8> {
     let mut bytes = vec![0; POOL * BYTES];
     oracle::encode(&samples()[..POOL * SAMPLES], &mut (0, 0), &mut bytes);
     bytes.extend(random(3, POOL * BYTES));
@@ -102,7 +102,7 @@ fn bodies() -> Vec<u8> {
 }
 
 /// A stretch of the pool, elsewhere with the next turn.
-fn window<T>(pool: &[T], turn: usize, len: usize) -> &[T] {
+pub fn window<T>(pool: &[T], turn: usize, len: usize) -> &[T] {
     let start = turn * 37 % (pool.len() - len);
     &pool[start..start + len]
 }

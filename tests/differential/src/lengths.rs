@@ -2,7 +2,8 @@
 //! arrays have fixed lengths, so here it is held to the rule about them first.
 
 use crate::blocks::{State, BYTES, MOST, SAMPLES};
-use crate::outcome::{Call, Outcome, DECODE, ENCODE};
+use crate::calls::{Call, DECODE, ENCODE};
+use crate::outcome::Outcome;
 use crate::parallel::each;
 use crate::report::Report;
 use crate::runs::random;

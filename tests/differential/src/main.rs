@@ -7,6 +7,7 @@
 
 mod adpcm_ima;
 mod blocks;
+mod calls;
 mod cuts;
 mod exhaustive;
 mod ffi;
@@ -15,6 +16,7 @@ mod headers;
 mod ima4;
 mod ledger;
 mod lengths;
+mod ms;
 mod nibble;
 mod outcome;
 mod packed;
@@ -46,6 +48,7 @@ fn main() -> ExitCode {
     let mut reports = g711::reports(chunks.is_some());
     reports.extend(adpcm_ima::reports(chunks.is_some()));
     reports.extend(ima4::reports(chunks.is_some()));
+    reports.extend(ms::reports(chunks.is_some()));
     reports.extend(chunks.map(exhaustive::encode));
     verdict(&reports)
 }

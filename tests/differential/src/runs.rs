@@ -2,7 +2,8 @@
 //! from each of the states too, and so is what nobody encoded.
 
 use crate::blocks::{State, BYTES, MOST, SAMPLES};
-use crate::outcome::{Call, Outcome, DECODE, ENCODE};
+use crate::calls::{Call, DECODE, ENCODE};
+use crate::outcome::Outcome;
 use crate::parallel::each;
 use crate::report::Report;
 use crate::signal::{noise, speech, Random};
@@ -84,7 +85,7 @@ pub fn random(seed: u64, len: usize) -> Vec<u8> {
 
 /// With a wrong bit in some bytes, headers among them: the state is kept before one block, and not
 /// before the next.
-fn spoilt(bytes: &[u8], seed: u64) -> Vec<u8> {
+pub fn spoilt(bytes: &[u8], seed: u64) -> Vec<u8> {
     let spoil = |(&byte, random): (&u8, u32)| match random >> 27 {
         0 => byte ^ 1 << (random % 8),
         _ => byte,

@@ -1,0 +1,20 @@
+//! MS blocks, of one channel and of two. There is no end of them, so what a difference could hang on is
+//! gone over one by one: the headers and the states, what the samples are like, the channel number, and
+//! the buffers' lengths. What the scope names by number is held at the end.
+
+mod block;
+mod both;
+mod contents;
+mod headers;
+mod lengths;
+mod numbers;
+
+use crate::report::Report;
+
+pub fn reports(progress: bool) -> Vec<Report> {
+    let mut reports = vec![headers::decode(progress), headers::encode(progress)];
+    reports.extend(contents::reports(progress));
+    reports.push(lengths::report(progress));
+    numbers::hold();
+    reports
+}
