@@ -13,7 +13,7 @@ use borrow.Author.Tests.{ltb-true, ltb-false, leb-true, leb-false, eqb-true, eqb
 use borrow.Table.Steps.{cases}
 use Rattle.adpcm_ima.specs.Step.{State, state}
 use Rattle.ms_layout.specs.Weave.{place, channelAt, itemAt}
-use Rattle.ms_layout.proofs.Weave.{Even, channel-at, item-at, in-list, in-strand, quotient, rest, above}
+use Rattle.ms_layout.proofs.Weave.{channel-at, item-at, quotient, rest, above}
 use Rattle.ms_block.specs.Block.{stateIn}
 
 -- where byte d of channel e stands, headers included

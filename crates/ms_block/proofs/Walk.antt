@@ -1,10 +1,10 @@
 -- Where the three loops stand, over the groups of a block of n bytes, the channels of a group and the bytes of a channel:
 -- `at` is the place of the next byte, and how far each loop is says whose byte that is. Assumes nothing.
-use mathlib.Core.Path.{_≡_, refl, sym, ap, _∙_}
+use mathlib.Core.Path.{_≡_, ap, _∙_}
 use Prim.Native.Nat.{ℕ, suc, _+_, _-_, _*_, _/_, _≤_, _<_, min}
 use native.Mathlib.Nat.{mul-le-mul-left}
 use native.Mathlib.Omega.{arith}
-use Rattle.ms_layout.proofs.Sizes.{Shape, four-bytes, samples-all}
+use Rattle.ms_layout.proofs.Sizes.{Shape, samples-all}
 use Rattle.ms_layout.proofs.Weave.{in-strand}
 use Rattle.ms_block.proofs.Midst.{byte, in-group}
 

@@ -1,6 +1,6 @@
 -- A block that is being decoded: what is written and the channels' states, before, after and between its bytes. Assumes nothing.
 use mathlib.Core.Path.{_≡_, refl, sym, ap, ap₂, _∙_, subst}
-use mathlib.Core.List.{List, _∷_}
+use mathlib.Core.List.{List}
 use Prim.Native.Nat.{ℕ, suc, _+_, _-_, _*_, _/_, _%_, _≤_, _<_}
 use native.Mathlib.Omega.{arith}
 use lib.Dec.{eqb}
@@ -14,8 +14,7 @@ use Rattle.adpcm_ima.specs.Table.{imaSteps}
 use Rattle.adpcm_ima.specs.Series.{decoded, nibblesOf}
 use Rattle.adpcm_ima.proofs.Bytes.{reads, read-low, read-high, read-next}
 use Rattle.ms_layout.specs.Header.{headed, headOf}
-use Rattle.ms_layout.specs.Weave.{place}
-use Rattle.ms_layout.proofs.Sizes.{Shape, four-bytes, samples-all, samples-each, even-samples}
+use Rattle.ms_layout.proofs.Sizes.{Shape, four-bytes, samples-each, even-samples}
 use Rattle.ms_layout.proofs.Weave.{weaves, singly, in-list, in-strand, strand-at, strand-length}
 use Rattle.ms_block.specs.Block.{decodedChannel, bytesIn, decodedBlock}
 use Rattle.ms_decode.specs.Progress.{Headed}

@@ -1,29 +1,27 @@
 -- A block that is being encoded: what is written and the channels' states, before, after and between its bytes. Assumes nothing.
 use mathlib.Core.Path.{_≡_, refl, sym, ap, ap₂, _∙_, subst}
-use mathlib.Core.Bool.{cond}
-use mathlib.Core.List.{List, _∷_}
+use mathlib.Core.List.{List}
 use Prim.Native.Nat.{ℕ, suc, _+_, _-_, _*_, _/_, _%_, _≤_, _<_}
 use native.Mathlib.Omega.{arith}
 use lib.Dec.{ltb, eqb}
 use lib.IntN.{ℤ, pos}
 use lib.ListN.{length, getD, set, take, drop, length-drop, length-set}
-use lib.Seq.{getD-drop, getD-set-same, getD-set-other, set-set, take-all, ext-getD}
-use borrow.Author.Tests.{eqb-true, eqb-false, ltb-true, ltb-false, lt-ltb, le-ltb}
+use lib.Seq.{getD-drop, getD-set-same, getD-set-other, set-set, take-all}
+use borrow.Author.Tests.{eqb-true, eqb-false, ltb-true, ltb-false}
 use borrow.Table.Steps.{cases}
 use Rattle.num.specs.Halves.{bitsOf}
-use Rattle.num.specs.Lists.{from}
-use Rattle.num.proofs.Lists.{as-far, as-long, length-from, getD-from}
-use Rattle.adpcm_ima.specs.Step.{State, state, sixteen, stepped, emitted}
+use Rattle.num.proofs.Lists.{as-far, as-long}
+use Rattle.adpcm_ima.specs.Step.{State, state, sixteen, emitted}
 use Rattle.adpcm_ima.specs.Table.{imaSteps}
 use Rattle.adpcm_ima.specs.Series.{encoded}
 use Rattle.adpcm_ima.proofs.Bytes.{writes, then, written-byte, written-next}
 use Rattle.ms_layout.specs.Sizes.{most, bytesOf}
-use Rattle.ms_layout.proofs.Sizes.{Shape, bytes-all, four-bytes, samples-each, even-samples}
-use Rattle.ms_layout.proofs.Weave.{singly, in-list, in-strand, strand-at, strand-length, woven-at, woven-length}
-use Rattle.ms_block.specs.Block.{encodedChannel, samplesIn, stateIn, each, begunIn, begun, encodedIn, blockFrom, statesFrom, encodedBlock}
+use Rattle.ms_layout.proofs.Sizes.{Shape, four-bytes, samples-each}
+use Rattle.ms_layout.proofs.Weave.{singly, in-list, in-strand, strand-at, strand-length, woven-at}
+use Rattle.ms_block.specs.Block.{encodedChannel, samplesIn, stateIn, begunIn, begun, encodedIn, blockFrom, statesFrom, encodedBlock}
 use Rattle.ms_block.proofs.Midst.{byte, in-group, States, states-first, state-now, states-turn}
 use Rattle.ms_block.proofs.Round.{each-is, in-each, block-length}
-use Rattle.ms_block.proofs.Walk.{Bytes, own, four, own-place, own-inside, room}
+use Rattle.ms_block.proofs.Walk.{Bytes, own, four, own-place, own-inside}
 
 abbrev gives : State → ℤ → ℕ
 gives = emitted sixteen imaSteps

@@ -1,11 +1,11 @@
 -- `ms_decode::groups` meets its contract: a byte gives two samples of its channel, at their places, and moves that channel's state alone;
 -- between the bytes the loops only pass on from whom to whom. Assumes nothing.
-use mathlib.Core.Path.{_≡_, refl, sym, ap, ap₂, _∙_, subst}
-use mathlib.Core.List.{List, map}
-use Prim.Native.Nat.{ℕ, suc, _+_, _-_, _*_, _/_, _≤_, _<_, min}
+use mathlib.Core.Path.{_≡_, sym, ap, _∙_, subst}
+use mathlib.Core.List.{map}
+use Prim.Native.Nat.{ℕ, _+_, _-_, _*_, _<_}
 use native.Mathlib.Omega.{arith}
 use lib.IntN.{pos}
-use lib.ListN.{length, getD, set, length-set, length-map}
+use lib.ListN.{length, set, length-set, length-map}
 use mir.Syntax.{w16}
 use mir.Val.{SFits, toZ, ofZ}
 use mir.ValLaws.{toZ-ofZ}
@@ -17,7 +17,7 @@ use Rattle.adpcm_ima.specs.View.{wideOf}
 use Rattle.ms_layout.specs.Sizes.{most}
 use Rattle.ms_layout.proofs.Sizes.{Shape, shape}
 use Rattle.ms_decode.proofs.Read.{Upto, first, byte-turn, ends}
-use Rattle.ms_block.proofs.Walk.{Groups, Channels, Bytes, groups-first, channels-first, bytes-first, bytes-next, channels-next, groups-next, frames-first, frames-next, own, four, own-place, own-inside, frame-is, room}
+use Rattle.ms_block.proofs.Walk.{Groups, Channels, Bytes, groups-first, channels-first, bytes-first, bytes-next, channels-next, groups-next, frames-first, frames-next, own, frame-is, room}
 use Rattle.ms_decode.proofs.groups.Statement.{statement}
 use Rattle.ms_decode.proofs.groups.Tie as tie
 

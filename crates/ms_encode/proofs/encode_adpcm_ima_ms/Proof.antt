@@ -1,14 +1,13 @@
 -- `ms_encode::encode_adpcm_ima_ms` meets its contract: a call that is not refused writes the headers, and then the groups from the states that they begin with. Assumes nothing.
 use mathlib.Core.Path.{_≡_, refl, sym, ap, ap₂, _∙_}
-use mathlib.Core.List.{List, map}
+use mathlib.Core.List.{List}
 use Prim.Native.Nat.{ℕ, _*_}
 use lib.ListN.{length, take}
 use borrow.Author.Needs.{needs}
 use borrow.Author.Tests.{ne-eqb}
 use Rattle.adpcm_ima.specs.Step.{State}
-use Rattle.adpcm_ima.specs.View.{stateOf}
 use Rattle.ms_layout.specs.Sizes.{refusalOf}
-use Rattle.ms_block.specs.Block.{begun, blockFrom, statesFrom}
+use Rattle.ms_block.specs.Block.{blockFrom, statesFrom}
 use Rattle.ms_block.specs.Call.{answered, encodeBlock}
 use Rattle.ms_encode.proofs.encode_adpcm_ima_ms.Statement.{statement}
 use Rattle.ms_encode.proofs.encode_adpcm_ima_ms.Tie as tie

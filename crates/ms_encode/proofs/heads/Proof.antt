@@ -1,12 +1,12 @@
 -- `ms_encode::heads` meets its contract: a turn writes one channel's header, and sets its predictor. Assumes nothing.
-use mathlib.Core.Path.{_≡_, refl, sym, ap, ap₂, _∙_, subst}
-use mathlib.Core.List.{List, map}
+use mathlib.Core.Path.{_≡_, refl, sym, ap, _∙_, subst}
+use mathlib.Core.List.{map}
 use Prim.Native.Nat.{ℕ, _+_, _-_, _*_, _/_, _%_, _≤_, _<_}
 use native.Mathlib.Omega.{arith}
 use lib.IntN.{ℤ, pos}
-use lib.ListN.{length, getD, set, length-set, length-map, List·getD-map}
+use lib.ListN.{length, getD, length-set, length-map, List·getD-map}
 use mir.Syntax.{w16}
-use mir.Val.{SFits, toZ, ofZ}
+use mir.Val.{SFits}
 use mir.ValLaws.{toZ-ofZ}
 use borrow.Author.Needs.{needs}
 use Rattle.num.specs.Halves.{bitsOf}
@@ -16,7 +16,6 @@ use Rattle.adpcm_ima.specs.declared.AdpcmImaState.{AdpcmImaState}
 use Rattle.adpcm_ima.specs.View.{stateOf}
 use Rattle.ms_layout.specs.Sizes.{most}
 use Rattle.ms_layout.proofs.Sizes.{Shape, shape}
-use Rattle.ms_block.specs.Block.{encodedBlock}
 use Rattle.ms_encode.proofs.Write.{Begun, begun-first, begun-turn, begun-all, four-length}
 use Rattle.ms_encode.proofs.heads.Statement.{statement}
 use Rattle.ms_encode.proofs.heads.Tie as tie

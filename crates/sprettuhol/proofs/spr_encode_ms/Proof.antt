@@ -1,5 +1,5 @@
 -- `sprettuhol::spr_encode_ms` meets its contract: it hands the numbers on as states, and stores those of the states that come back. Assumes nothing.
-use mathlib.Core.Path.{_≡_, ap, ap₂, _∙_}
+use mathlib.Core.Path.{ap, ap₂, _∙_}
 use mathlib.Core.List.{List, map}
 use lib.ListN.{length}
 use borrow.Author.Needs.{needs}

@@ -1,10 +1,10 @@
 -- `sweep::sweep_encode` meets its contract: a turn writes the next answer, so what is written and then the rest of the answers is all of them.
 -- Assumes nothing.
 use mathlib.Core.Path.{_≡_, refl, ap, _∙_, subst}
-use Prim.Native.Nat.{ℕ, suc, _+_, _-_, _≤_}
+use Prim.Native.Nat.{ℕ, _-_, _≤_}
 use native.Mathlib.Omega.{arith}
 use lib.IntN.{ℤ, subℕ}
-use lib.ListN.{length, set, length-set}
+use lib.ListN.{length, length-set}
 use mir.Syntax.{w16}
 use mir.Val.{SFits}
 use mir.ValLaws.{toZ-ofZ}

@@ -10,7 +10,7 @@ use mir.Syntax.{w16}
 use mir.Val.{SFits}
 use mir.ValLaws.{toZ-ofZ}
 use borrow.Author.Needs.{needs}
-use Rattle.adpcm_ima.specs.Step.{State, sixteen, emitted}
+use Rattle.adpcm_ima.specs.Step.{sixteen, emitted}
 use Rattle.adpcm_ima.specs.Table.{imaSteps}
 use Rattle.adpcm_ima.specs.View.{wideOf}
 use Rattle.adpcm_ima.specs.Series.{done, after}

@@ -3,7 +3,7 @@ use mathlib.Core.Path.{_≡_, refl, sym, ap, _∙_, subst}
 use mathlib.Core.List.{List, map}
 use Prim.Native.Nat.{ℕ, _-_, _≤_}
 use native.Mathlib.Omega.{arith}
-use lib.ListN.{length, getD, set, length-set, List·getD-map}
+use lib.ListN.{length, getD, length-set, List·getD-map}
 use borrow.Author.Needs.{needs}
 use Rattle.num.proofs.Lists.{Upto, one-more, all}
 use Rattle.adpcm_ima.specs.Step.{State}
