@@ -54,16 +54,16 @@ returns c =
     let v-is : n ≡ part is 8 + greedy s r = n-is ∙ ap (λ (a : ℕ). a + greedy s r) (sign-is x) in
     let d-is : c .before .before .before .taken .result + c .before .before .before .before .before .before .before .before .before .before .before .step .result / 8 ≡ m s (greedy s r) + s / 8 = ap₂ (λ (a b : ℕ). a + b / 8) (c .before .before .before .taken .ensures .0 ∙ ap₂ (λ (a b : ℕ). m a (greedy a b)) s-is r-is) s-is in
     let next =
-        toZ-ofZ w16 _ h
-        ∙ c .before .towards .ensures
-        ∙ ap₂ (λ (q : ℤ) (d : ℕ). aim q (ltZ z (pos 0)) d) (toZ-ofZ w16 _ f) d-is
-        ∙ ap (λ (b : Bool). aim p b (m s (greedy s r) + s / 8)) (ap (λ (y : ℤ). ltZ y (pos 0)) x-is)
-        ∙ predicts s r is (negsuc 32767) (pos 32767) p in
+    toZ-ofZ w16 _ h
+    ∙ c .before .towards .ensures
+    ∙ ap₂ (λ (q : ℤ) (d : ℕ). aim q (ltZ z (pos 0)) d) (toZ-ofZ w16 _ f) d-is
+    ∙ ap (λ (b : Bool). aim p b (m s (greedy s r) + s / 8)) (ap (λ (y : ℤ). ltZ y (pos 0)) x-is)
+    ∙ predicts s r is (negsuc 32767) (pos 32767) p in
     let index =
-        c .raised .ensures
-        ∙ ap₂ (λ (a b : ℕ). lift a b (c .before .before .before .before .before .before .before .reached .result)) i-is four
-        ∙ ap (lift i (part (takes r s) 1)) above
-        ∙ raises s r is 88 i in
+    c .raised .ensures
+    ∙ ap₂ (λ (a b : ℕ). lift a b (c .before .before .before .before .before .before .before .reached .result)) i-is four
+    ∙ ap (lift i (part (takes r s) 1)) above
+    ∙ raises s r is 88 i in
     (n-is, omega arith, ap₂ state next index ∙ ap (stepped sixteen (start .args .steps .now) (wideOf (start .args .self))) (sym v-is))
 
 pub coded-spec : {M : Type 1} → statement M
