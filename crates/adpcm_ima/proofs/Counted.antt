@@ -16,7 +16,7 @@ reachedOf a s r = part (takes r (a + s / 4)) 1 + part (takes r (a + s / 2)) 1 + 
 
 module _ (s r : ℕ) where
   -- a difference below the first part reaches none of the sums that have it, and any other all of those that have not
-  none : r < s → reachedOf s s r ≡ 0
+  pub none : r < s → reachedOf s s r ≡ 0
   none l = rw (over (s / 4), over (s / 2), over₂)
     where
       over : (x : ℕ) → leb (s + x) r ≡ false
@@ -25,7 +25,7 @@ module _ (s r : ℕ) where
       over₂ : leb (s + s / 2 + s / 4) r ≡ false
       over₂ = lt-leb (s + s / 2 + s / 4) r (omega arith)
 
-  all : s ≤ r → reachedOf 0 s r ≡ 3
+  pub all : s ≤ r → reachedOf 0 s r ≡ 3
   all l = rw (le-leb (0 + s / 4) r (omega arith), le-leb (0 + s / 2) r (omega arith), le-leb (0 + s / 2 + s / 4) r (omega arith))
 
   -- what is left reaches the same without it

@@ -2,7 +2,7 @@
 -- of at most s/8 come to less than the level's own part, so three levels find the bits again. Assumes nothing.
 use mathlib.Core.Path.{_≡_, refl, sym, _∙_}
 use mathlib.Core.Bool.{Bool, true, false}
-use Prim.Native.Nat.{ℕ, suc, _+_, _-_, _/_, _≤_, _<_}
+use Prim.Native.Nat.{ℕ, suc, _+_, _-_, _*_, _/_, _≤_, _<_}
 use native.Mathlib.Omega.{arith}
 use lib.Dec.{leb}
 use borrow.Author.Tests.{le-leb, lt-leb, leb-true, leb-false}
@@ -44,7 +44,7 @@ shape v h =
 
 -- ---- one level
 
-part-le : (is : Bool) (x : ℕ) → part is x ≤ x
+pub part-le : (is : Bool) (x : ℕ) → part is x ≤ x
 part-le true x = omega arith
 part-le false x = omega arith
 
@@ -64,6 +64,10 @@ left-is is x e h = rw (takes-is is x e h) (omega arith)
 
 -- ---- three levels
 
+pub m-le : (s v : ℕ) → m s v ≤ 2 * s
+unfolding m
+m-le s v = omega (arith, part-le (bit 4 v) s, part-le (bit 2 v) (s / 2), part-le (bit 1 v) (s / 4))
+
 module _ (s r : ℕ) where
   abbrev r₂ : ℕ
   r₂ = left r s
@@ -81,6 +85,13 @@ module _ (s r : ℕ) where
   parts is =
       let (sign, taken) = bits s is (takes r s) (takes r₂ (s / 2)) (takes r₁ (s / 4)) in
       (omega (arith, taken, takes-le r s, takes-le r₂ (s / 2), takes-le r₁ (s / 4)), sign)
+
+  -- what is taken is what is not left
+  pub taken : (is : Bool) → m s (part is 8 + greedy s r) ≡ r - left r₁ (s / 4)
+  unfolding greedy
+  taken is =
+      let (sign, sum) = bits s is (takes r s) (takes r₂ (s / 2)) (takes r₁ (s / 4)) in
+      omega (arith, sum, takes-le r s, takes-le r₂ (s / 2), takes-le r₁ (s / 4))
 
   -- only a difference below s/4 has no bits
   pub none : greedy s r ≡ 0 → r < s / 4

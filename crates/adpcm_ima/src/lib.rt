@@ -1,7 +1,9 @@
 // One nibble of IMA ADPCM, decoded and encoded. A state goes in by value, and the next one comes back.
+mod coded;
 mod nibble;
 mod step;
 
+pub use step::Coded;
 pub use step::Wide;
 ghost use mathlib.Core.Path.{_≡_};
 ghost use lib.IntN.{pos};

@@ -94,14 +94,14 @@ pub(crate) fn magnitude(s: u32, r: u32) -> u32
 }
 
 // How many of a + s/4, a + s/2 and a + s/2 + s/4 the difference reaches.
-fn reached(a: u32, s: u32, r: u32) -> u32
+pub(crate) fn reached(a: u32, s: u32, r: u32) -> u32
     requires { ⌜ (a < 65536) × (s < 65536) ⌝ }
     ensures { λ n. ⌜ (n ≡ Step.part (Step.takes r (a + s / 4)) 1 + Step.part (Step.takes r (a + s / 2)) 1 + Step.part (Step.takes r (a + s / 2 + s / 4)) 1) × (n ≤ 3) ⌝ }
 {
     takes(r, a + s / 4) + takes(r, a + s / 2) + takes(r, a + s / 2 + s / 4)
 }
 
-fn takes(r: u32, x: u32) -> u32
+pub(crate) fn takes(r: u32, x: u32) -> u32
     ensures { λ n. ⌜ (n ≡ Step.part (Step.takes r x) 1) × (n ≤ 1) ⌝ }
 {
     if r < x { 0 } else { 1 }

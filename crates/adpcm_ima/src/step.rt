@@ -1,12 +1,17 @@
 // The step that a block's loop calls: the table lent, and a state that is wide inside.
 use crate::AdpcmImaState;
+use crate::coded::raised;
+use crate::coded::taken;
+use crate::coded::towards;
 use crate::nibble::absolute;
 use crate::nibble::difference;
 use crate::nibble::held;
 use crate::nibble::magnitude;
 use crate::nibble::predicted;
+use crate::nibble::reached;
 use crate::nibble::sign;
 use crate::nibble::step;
+use crate::nibble::takes;
 use num::lesser;
 ghost use mathlib.Core.Path.{_≡_};
 ghost use Prim.Native.Nat.{_<_};
@@ -17,6 +22,11 @@ ghost use Rattle.adpcm_ima.specs.View.{stateOf, wideOf, narrow};
 pub struct Wide {
     pub predictor: i16,
     pub index: usize,
+}
+
+pub struct Coded {
+    pub nibble: u32,
+    pub next: Wide,
 }
 
 impl Wide {
@@ -58,5 +68,26 @@ impl Wide {
         let s = step(steps, lesser(self.index, 88));
         let x = difference(self.predictor, sample);
         sign(x) + magnitude(s, absolute(x))
+    }
+
+    // The nibble of a sample, and the state behind it: `nibble` and then `moved`, with what both need found once.
+    pub fn coded(self, steps: &[u16; 89], sample: i16) -> Coded
+        ensures { λ r. ⌜ (r .nibble ≡ emitted sixteen (now (steps .entry)) (wideOf self) sample) × (r .nibble < 16) × (wideOf (r .next) ≡ stepped sixteen (now (steps .entry)) (wideOf self) (r .nibble)) ⌝ }
+    {
+        let index = lesser(self.index, 88);
+        let s = step(steps, index);
+        let x = difference(self.predictor, sample);
+        let r = absolute(x);
+        let above = reached(s, s, r);
+        let four = takes(r, s);
+        let nibble = sign(x) + reached(0, s, r) + four + above;
+        let predictor = towards(self.predictor, x < 0, taken(s, r) + s / 8);
+        Coded {
+            nibble,
+            next: Self {
+                predictor,
+                index: raised(index, four, above),
+            },
+        }
     }
 }

@@ -99,11 +99,10 @@ fn groups(
             let mut wide = Wide::of(states[ch]);
             let mut k = c * (8 * g + 1) + ch;
             while at < end {
-                let low = wide.nibble(&steps, samples[k]);
-                let between = wide.moved(&steps, low);
-                let high = between.nibble(&steps, samples[k + c]);
-                wide = between.moved(&steps, high);
-                out_buf[at] = pack(low, high);
+                let first = wide.coded(&steps, samples[k]);
+                let second = first.next.coded(&steps, samples[k + c]);
+                wide = second.next;
+                out_buf[at] = pack(first.nibble, second.nibble);
                 k += 2 * c;
                 at += 1;
             }

@@ -106,61 +106,60 @@ places c =
     let k-is = inv .5 ∙ ap (λ (f : ℕ). a .c * f + at .before .before .before .before .before .before .loop .ch) (sym (frame-is (inv .1) h)) in
     (k-is, omega (arith, k-is, room (inv .1) h, inv .2), omega (arith, inv .2, inv .1 .block .short))
 
-mul-nibble : tie.Need-mul-nibble Inv-loop2 μ-loop2 Inv-loop μ-loop Inv-block μ-block
-mul-nibble c = omega (arith, places (c .before))
+mul-coded : tie.Need-mul-coded Inv-loop2 μ-loop2 Inv-loop μ-loop Inv-block μ-block
+mul-coded c = omega (arith, places (c .before))
 
-shared-slice-copy-out-nibble : tie.Need-shared-slice-copy-out-nibble Inv-loop2 μ-loop2 Inv-loop μ-loop Inv-block μ-block
-shared-slice-copy-out-nibble c = omega (arith, places (c .before))
+shared-slice-copy-out-coded : tie.Need-shared-slice-copy-out-coded Inv-loop2 μ-loop2 Inv-loop μ-loop Inv-block μ-block
+shared-slice-copy-out-coded c = omega (arith, places (c .before))
 
-add-nibble : tie.Need-add-nibble Inv-loop2 μ-loop2 Inv-loop μ-loop Inv-block μ-block
-add-nibble c = omega (arith, places (c .before .before .before .before .before .before))
+add-coded : tie.Need-add-coded Inv-loop2 μ-loop2 Inv-loop μ-loop Inv-block μ-block
+add-coded c = omega (arith, places (c .before .before .before .before))
 
-mul-nibble-2 : tie.Need-mul-nibble-2 Inv-loop2 μ-loop2 Inv-loop μ-loop Inv-block μ-block
-mul-nibble-2 c = omega (arith, places (c .before .before .before .before .before .before))
+mul-coded-2 : tie.Need-mul-coded-2 Inv-loop2 μ-loop2 Inv-loop μ-loop Inv-block μ-block
+mul-coded-2 c = omega (arith, places (c .before .before .before .before))
 
-shared-slice-copy-out-nibble-2 : tie.Need-shared-slice-copy-out-nibble-2 Inv-loop2 μ-loop2 Inv-loop μ-loop Inv-block μ-block
-shared-slice-copy-out-nibble-2 c = omega (arith, places (c .before .before .before .before .before .before))
+shared-slice-copy-out-coded-2 : tie.Need-shared-slice-copy-out-coded-2 Inv-loop2 μ-loop2 Inv-loop μ-loop Inv-block μ-block
+shared-slice-copy-out-coded-2 c = omega (arith, places (c .before .before .before .before))
 
 add-k-3 : tie.Need-add-k-3 Inv-loop2 μ-loop2 Inv-loop μ-loop Inv-block μ-block
-add-k-3 c = omega (arith, places (c .before .before .before .before .before .before .before .before .before .before .before))
+add-k-3 c = omega (arith, places (c .before .before .before .before .before .before .before .before))
 
 loop2-less : tie.Need-loop2-less Inv-loop2 μ-loop2 Inv-loop μ-loop Inv-block μ-block
-loop2-less c = omega (arith, c .before .before .before .before .before .before .before .before .before .before .before .loop2-test .taken)
+loop2-less c = omega (arith, c .before .before .before .before .before .before .before .before .loop2-test .taken)
 
 loop2-again : tie.Need-loop2-again Inv-loop2 μ-loop2 Inv-loop μ-loop Inv-block μ-block
 unfolding imaSteps
 loop2-again c =
-    let at = c .before .before .before .before .before .before .before .before .before .before .before .before in
+    let at = c .before .before .before .before .before .before .before .before .before in
     let loop = at .before .before .before .before .before .before in
     let a = loop .before .before .before .args in
     let inv = at .loop2 .inv in
-    let h = c .before .before .before .before .before .before .before .before .before .before .before .loop2-test .taken in
+    let h = c .before .before .before .before .before .before .before .before .loop2-test .taken in
     let k = at .loop2 .k in
     let out = at .loop2 .out-buf in
     let samples = a .samples .now in
     let states = loop .loop .states in
     let w = wideOf (at .loop2 .wide) in
-    let low = c .before .before .before .before .before .before .before .before .nibble in
-    let one = c .before .before .before .before .before .before .moved in
-    let high = c .before .before .before .nibble2 in
-    let two = c .before .moved2 in
-    let f : SFits w16 (getD samples k (pos 0)) = search (needs, c .before .before .before .before .before .before .before .before .before .nibble-arg .given) in
-    let s : SFits w16 (getD samples (k + a .c) (pos 0)) = search (needs, c .before .before .before .before .nibble-arg2 .given) in
+    let one = c .before .before .before .before .before .coded in
+    let two = c .before .before .coded2 in
+    let mid = wideOf (one .result .next) in
+    let f : SFits w16 (getD samples k (pos 0)) = search (needs, c .before .before .before .before .before .before .coded-arg .given) in
+    let s : SFits w16 (getD samples (k + a .c) (pos 0)) = search (needs, c .before .before .before .coded-arg2 .given) in
     let x = toZ w16 (ofZ w16 (getD samples k (pos 0))) in
     let y = toZ w16 (ofZ w16 (getD samples (k + a .c) (pos 0))) in
-    let one-is = one .ensures ∙ ap (stepped sixteen imaSteps w) (low .ensures .0) in
-    let two-is = two .ensures ∙ ap (stepped sixteen imaSteps (wideOf (one .result))) (high .ensures .0) in
+    let one-is = one .ensures .2 ∙ ap (stepped sixteen imaSteps w) (one .ensures .0) in
+    let two-is = two .ensures .2 ∙ ap (stepped sixteen imaSteps mid) (two .ensures .0) in
     let some : loop .loop .ch < length (map stateOf states) = omega (arith, inv .1 .channel, inv .1 .block .few, length-map states stateOf, inv .4) in
     let is = subst (Shape (a .c) (length (a .out-buf .now))) (sym (inv .2)) (inv .1 .block) in
-    let b-is : c .pack .result ≡ 16 * high .result + low .result = c .pack .ensures ∙ omega (arith, low .ensures .1, high .ensures .1) in (
-      (λ starts u. byte-turn samples starts is (inv .1) h k out (map stateOf states) w (wideOf (one .result)) (wideOf (two .result)) x y (c .pack .result) (inv .3) some
-          (places (c .before .before .before .before .before .before .before .before .before .before .before) .0) (toZ-ofZ w16 _ f) (toZ-ofZ w16 _ s) one-is two-is (b-is ∙ ap₂ (λ (v u : ℕ). 16 * v + u) (high .ensures .0) (low .ensures .0)) (inv .0 starts u)),
+    let b-is : c .pack .result ≡ 16 * two .result .nibble + one .result .nibble = c .pack .ensures ∙ omega (arith, one .ensures .1, two .ensures .1) in (
+      (λ starts u. byte-turn samples starts is (inv .1) h k out (map stateOf states) w mid (wideOf (two .result .next)) x y (c .pack .result) (inv .3) some
+          (places (c .before .before .before .before .before .before .before .before) .0) (toZ-ofZ w16 _ f) (toZ-ofZ w16 _ s) one-is two-is (b-is ∙ ap₂ (λ (v u : ℕ). 16 * v + u) (two .ensures .0) (one .ensures .0)) (inv .0 starts u)),
       bytes-next (loop .before .block .g) (loop .loop .ch) (loop .loop .at) (at .before .before .before .lesser .result) (at .loop2 .at) (inv .1) h,
       inv .2,
       length-set out (at .loop2 .at) (c .pack .result) ∙ inv .3,
       inv .4,
       frames-next (a .c) (loop .before .block .g) (loop .loop .ch) (loop .loop .at) (at .loop2 .at) k (inv .1 .begun) (inv .5),
-      moved-lt imaSteps (wideOf (one .result)) (wideOf (two .result)) (high .result) (two .ensures),
+      moved-lt imaSteps mid (wideOf (two .result .next)) (two .result .nibble) (two .ensures .2),
     )
 
 loop-less : tie.Need-loop-less Inv-loop2 μ-loop2 Inv-loop μ-loop Inv-block μ-block
@@ -236,14 +235,12 @@ groups-spec =
     (λ c. search needs)
     (λ c. search needs)
     loop2-holds
-    mul-nibble
-    shared-slice-copy-out-nibble
+    mul-coded
+    shared-slice-copy-out-coded
     (λ c κs. search needs)
-    (λ c κs. search needs)
-    add-nibble
-    mul-nibble-2
-    shared-slice-copy-out-nibble-2
-    (λ c κs. search needs)
+    add-coded
+    mul-coded-2
+    shared-slice-copy-out-coded-2
     (λ c κs. search needs)
     (λ c κs. search needs)
     (λ c. search needs)
