@@ -1,5 +1,5 @@
 -- `adpcm_ima::coded::taken` meets its contract by the law `took`. Assumes nothing.
-use mathlib.Core.Path.{_≡_, sym, ap, _∙_}
+use mathlib.Core.Path.{sym, ap, _∙_}
 use Prim.Native.Nat.{ℕ, _-_, _/_}
 use borrow.Author.Needs.{needs}
 use Rattle.adpcm_ima.specs.Step.{left, greedy}
