@@ -64,6 +64,7 @@ fn groups(c: usize, buf: &[u8], heads: [Wide; MOST], out_samples: &mut [i16])
             }
             let end = lesser(at + 4, n);
             let mut wide = wides[ch];
+            // a group starts at frame 8 g + 1, and the samples of a channel stand c apart
             let mut k = c * (8 * g + 1) + ch;
             while at < end {
                 let byte = buf[at];

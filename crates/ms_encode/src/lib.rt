@@ -97,6 +97,7 @@ fn groups(
             }
             let end = lesser(at + 4, n);
             let mut wide = Wide::of(states[ch]);
+            // a group starts at frame 8 g + 1, and the samples of a channel stand c apart
             let mut k = c * (8 * g + 1) + ch;
             while at < end {
                 let first = wide.coded(&steps, samples[k]);
