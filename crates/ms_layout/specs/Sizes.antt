@@ -8,6 +8,7 @@ use lib.Dec.{eqb, leb}
 abbrev pub most : ℕ
 most = 2
 
+-- The channel number is 1 or 2.
 abbrev pub channelled : ℕ → Bool
 channelled c = leb 1 c && leb c most
 

@@ -15,7 +15,7 @@ channelAt turn c p = p / turn % c
 abbrev pub itemAt : ℕ → ℕ → ℕ → ℕ
 itemAt turn c p = turn * (p / turn / c) + p % turn
 
--- The items of channel e alone; and a list of n items from those of every channel. There is no item x in either.
+-- The items of channel e alone; and a list of n items from those of every channel. x is read where there is nothing.
 unfoldable pub strand : {X : Type 0} → ℕ → ℕ → X → List X → ℕ → List X
 strand turn c x xs e = from (length xs / c) 0 (λ d. getD xs (place turn c e d) x)
 
