@@ -24,8 +24,12 @@ abbrev pub bytesOf : ℕ → ℕ → ℕ
 bytesOf c m = (m + 7 * c) / 2
 
 -- 1: channel number not 1 or 2. 2: a length breaks the MS rules, or two lengths do not fit. 1 is tested before 2.
+abbrev pub refusedBy : ℕ → Bool → ℕ
+refusedBy c fit = cond (channelled c) (cond fit 0 2) 1
+
+-- The two lengths of a decoder or an encoder: a block's, and that of its samples.
 unfoldable pub refusalOf : ℕ → ℕ → ℕ → ℕ
-refusalOf c n m = cond (channelled c) (cond (sized c n && eqb m (samplesOf c n)) 0 2) 1
+refusalOf c n m = refusedBy c (sized c n && eqb m (samplesOf c n))
 
 -- 0: the call is done.
 abbrev pub Taken : ℕ → ℕ → ℕ → Type 0

@@ -1,0 +1,64 @@
+-- The loss report of two sample runs. Assumes nothing.
+use mathlib.Core.Bool.{cond, _&&_}
+use mathlib.Core.List.{List, [], _∷_}
+use mathlib.Core.Option.{Option, none, some}
+use Prim.Native.Nat.{ℕ, suc, _+_, min, max}
+use lib.Dec.{eqb, leb}
+use lib.IntN.{ℤ, natAbs, _-ℤ_}
+use lib.ListN.{length}
+use Rattle.loss.specs.declared.First.{First}
+use Rattle.loss.specs.declared.First.the-variants.{At, Nowhere}
+
+-- The absolute difference of two samples, and those of two runs, place by place.
+abbrev pub distance : ℤ → ℤ → ℕ
+distance x y = natAbs (x -ℤ y)
+
+unfoldable pub distances : List ℤ → List ℤ → List ℕ
+distances [] ys = []
+distances (x ∷ xs) [] = []
+distances (x ∷ xs) (y ∷ ys) = distance x y ∷ distances xs ys
+
+-- How many places differ,
+unfoldable pub countOf : List ℕ → ℕ
+countOf [] = 0
+countOf (d ∷ ds) = cond (eqb d 0) 0 1 + countOf ds
+
+-- the first of them counted from 0 (or none),
+unfoldable pub firstFrom : ℕ → List ℕ → Option ℕ
+firstFrom i [] = none
+firstFrom i (d ∷ ds) = cond (eqb d 0) (firstFrom (suc i) ds) (some i)
+
+abbrev pub firstOf : List ℕ → Option ℕ
+firstOf ds = firstFrom 0 ds
+
+-- the largest absolute difference, 0 if none.
+unfoldable pub largest : List ℕ → ℕ
+largest [] = 0
+largest (d ∷ ds) = max d (largest ds)
+
+-- A difference above 32,767 is reported as 32,767.
+abbrev pub capped : ℕ → ℕ
+capped d = min d 32767
+
+-- The enum of the code: a place from 0, or none.
+abbrev pub placeOf : First → Option ℕ
+placeOf (At k) = some k
+placeOf Nowhere = none
+
+-- What the call returns.
+pub record Reported : Type 0 where
+  pub refusal : ℕ
+  pub count : ℕ
+  pub first : Option ℕ
+  pub peak : ℕ
+
+abbrev pub reported : ℕ → ℕ → Option ℕ → ℕ → Reported
+reported number count first peak = record { refusal = number; count = count; first = first; peak = peak }
+
+abbrev pub reportOf : List ℕ → Reported
+reportOf ds = reported 0 (countOf ds) (firstOf ds) (capped (largest ds))
+
+-- Two sample runs of equal length, 0 to 131,063; any others are refused by 2, and then there is nothing to report.
+unfoldable pub lossReport : List ℤ → List ℤ → Reported
+lossReport before after =
+    cond (eqb (length before) (length after) && leb (length before) 131063) (reportOf (distances before after)) (reported 2 0 none 0)

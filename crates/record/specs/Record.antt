@@ -1,0 +1,23 @@
+-- The record that a program reads. Assumes nothing.
+use mathlib.Core.Bool.{Bool, _&&_}
+use mathlib.Core.List.{List}
+use Prim.Native.Nat.{ℕ, _+_, _*_}
+use lib.Dec.{eqb, leb}
+use lib.ListN.{length, getD, drop}
+
+-- Two bytes big-endian, the length of all that follows, 2 to 4,098; version byte 1; channel byte; the block.
+abbrev pub lengthOf : List ℕ → ℕ
+lengthOf input = 256 * getD input 0 0 + getD input 1 0
+
+abbrev pub versionOf : List ℕ → ℕ
+versionOf input = getD input 2 0
+
+abbrev pub channelsOf : List ℕ → ℕ
+channelsOf input = getD input 3 0
+
+abbrev pub blockOf : List ℕ → List ℕ
+blockOf input = drop 4 input
+
+-- Short input, extra bytes, another length or version are malformed.
+unfoldable pub wellFormed : List ℕ → Bool
+wellFormed input = leb 2 (lengthOf input) && leb (lengthOf input) 4098 && eqb (length input) (2 + lengthOf input) && eqb (versionOf input) 1

@@ -1,0 +1,1 @@
+// The record that the program `repack` reads, and what it prints.

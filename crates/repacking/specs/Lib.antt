@@ -1,0 +1,2 @@
+pub mod Repack
+pub mod Written

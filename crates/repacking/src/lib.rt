@@ -1,0 +1,1 @@
+// Repacking an MS block.

@@ -1,0 +1,1 @@
+// Text put into a buffer.
