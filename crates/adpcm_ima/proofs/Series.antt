@@ -117,6 +117,11 @@ module _ (limits : Limits) (steps : List ℕ) where
   end-good st [] h = h
   end-good st (x ∷ xs) h = end-good (next st x) xs (stepped-good st (emitted limits steps st x) (h .inside))
 
+  pub decoded-within : (st : State) (vs : List ℕ) → In limits (st .predictor) → Within limits (dec st vs .written)
+  unfolding decoded
+  decoded-within st [] h = tt
+  decoded-within st (v ∷ vs) h = let next = stepped-good st v h .inside in (next, decoded-within (stepped limits steps st v) vs next)
+
   -- Where every step is at least 4, the predictors are encoded as the samples were.
   pub encodes-again : ((st : State) → 4 ≤ stepAt limits steps st) → (st : State) (xs : List ℤ) → In limits (st .predictor) → Within limits xs → enc st (preds st xs) ≡ enc st xs
   unfolding encoded predictors stepped

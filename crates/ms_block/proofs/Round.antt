@@ -13,14 +13,14 @@ use borrow.Author.Tests.{ltb-true, ltb-false, lt-ltb}
 use borrow.Table.Steps.{cases}
 use Rattle.num.specs.Lists.{from}
 use Rattle.num.proofs.Halves.{halves-back}
-use Rattle.num.proofs.Lists.{all-at, table, length-from}
+use Rattle.num.proofs.Lists.{all-at, all-from, table, length-from}
 use Rattle.adpcm_ima.specs.Step.{State, state, sixteen, In}
 use Rattle.adpcm_ima.specs.Table.{imaSteps}
 use Rattle.adpcm_ima.specs.Series.{Done, Within, encoded, predictors, nibblesOf}
 use Rattle.adpcm_ima.proofs.Series.{packed-length, nibbles-length, decoded-length, encoded-length, decoded-lowered, decodes-back, encoded-unpacked}
 use Rattle.ms_layout.specs.Header.{headOf}
-use Rattle.ms_layout.specs.Sizes.{most, bytesOf, refusalOf}
-use Rattle.ms_layout.specs.Weave.{place}
+use Rattle.ms_layout.specs.Sizes.{most, samplesOf, bytesOf, refusalOf}
+use Rattle.ms_layout.specs.Weave.{place, channelAt, itemAt, strand, woven}
 use Rattle.ms_layout.proofs.Sizes.{Shape, four-bytes, samples-each, even-samples}
 use Rattle.ms_layout.proofs.Weave.{in-list, woven-length, strand-at, strand-length, unwoven}
 use Rattle.ms_block.specs.Block.{decodedChannel, encodedChannel, bytesIn, samplesIn, decodedBlock, stateIn, each, begunIn, begun, encodedIn, blockFrom, statesFrom, encodedBlock}
@@ -48,7 +48,7 @@ module _ (k : ℕ) (st : State) (xs : List ℤ) (many : length xs ≡ 1 + 2 * k)
 
   -- The header gives its predictor back, and the nibbles behind it give the encoder's.
   -- Its index may be above 88: the decoder lowers it, as the encoder did.
-  read-back : In sixteen (st .predictor)
+  pub read-back : In sixteen (st .predictor)
       → decodedChannel (encodedChannel st xs .written) ≡ st .predictor ∷ predictors sixteen imaSteps st (drop 1 xs)
   unfolding decodedChannel encodedChannel headOf
   read-back within =
@@ -104,6 +104,20 @@ heard c states samples e =
     let xs = samplesIn c samples e in
     getD xs 0 (pos 0) ∷ predictors sixteen imaSteps (begunIn c states samples e) (drop 1 xs)
 
+zero-in : In sixteen (pos 0)
+zero-in = record { above = record { le = tt }; below = record { le = tt } }
+
+-- samples within the limits are so in each channel, and those of all channels are where each channel's are
+pub samples-within : (c : ℕ) (samples : List ℤ) (e : ℕ) → Within sixteen samples → Within sixteen (samplesIn c samples e)
+unfolding strand
+samples-within c samples e within = all-from _ (In sixteen) (λ d. all-at (In sixteen) samples (place 1 c e d) (pos 0) zero-in within) (length samples / c) 0
+
+pub decoded-within : (c : ℕ) (bytes : List ℕ) → ((e : ℕ) → Within sixteen (decodedChannel (bytesIn c bytes e))) → Within sixteen (decodedBlock c bytes)
+unfolding decodedBlock woven
+decoded-within c bytes within =
+    all-from _ (In sixteen) (λ p. all-at (In sixteen) (decodedChannel (bytesIn c bytes (channelAt 1 c p))) (itemAt 1 c p) (pos 0) zero-in (within (channelAt 1 c p)))
+    (samplesOf c (length bytes)) 0
+
 module _ {c n : ℕ} (samples : List ℤ) (is : Shape c n (length samples)) where
   bytes-many : bytesOf c (length samples) ≡ n
   bytes-many = omega (arith, is .fits, is .enough)
@@ -116,7 +130,7 @@ module _ {c n : ℕ} (samples : List ℤ) (is : Shape c n (length samples)) wher
     hc : 0 < c
     hc = omega (arith, h)
 
-    samples-many : length (samplesIn c samples e) ≡ 1 + 2 * (n / c - 4)
+    pub samples-many : length (samplesIn c samples e) ≡ 1 + 2 * (n / c - 4)
     samples-many = strand-length 1 c (omega arith) hc (pos 0) samples e ∙ samples-each is
 
     -- Channel e of the bytes is channel e of the samples, encoded.
@@ -134,11 +148,8 @@ module _ {c n : ℕ} (samples : List ℤ) (is : Shape c n (length samples)) wher
         channel-encoded (begun c states samples)
         ∙ ap (λ (st : State). encodedChannel st (samplesIn c samples e) .written) (in-each c states (begunIn c states samples) e h (is .few))
 
-    first-within : Within sixteen samples → In sixteen (getD (samplesIn c samples e) 0 (pos 0))
-    first-within within =
-        let some : 0 < length samples / c = omega (arith, samples-each is) in
-        rw (strand-at 1 c (omega arith) hc (pos 0) samples e 0 some)
-        (all-at (In sixteen) samples (place 1 c e 0) (pos 0) (in-list 1 c (omega arith) hc (length samples) e 0 (even-samples is) h some) within)
+    pub first-within : Within sixteen samples → In sixteen (getD (samplesIn c samples e) 0 (pos 0))
+    first-within within = all-at (In sixteen) (samplesIn c samples e) 0 (pos 0) zero-in (samples-within c samples e within)
 
     -- there and back
     pub channel-heard : Within sixteen samples → (states : List State) → decodedChannel (bytesIn c (encodedBlock c states samples) e) ≡ heard c states samples e

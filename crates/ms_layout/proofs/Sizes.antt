@@ -19,7 +19,7 @@ pub record Shape (c n m : ℕ) : Type 0 where
   pub even : Even 4 c n
   pub fits : m ≡ 2 * n - 7 * c
 
-passed : (a b : Bool) → _≡_ {A = ℕ} (cond a (cond b 0 2) 1) 0 → (a ≡ true) × (b ≡ true)
+pub passed : (a b : Bool) → _≡_ {A = ℕ} (cond a (cond b 0 2) 1) 0 → (a ≡ true) × (b ≡ true)
 passed true true t = (refl, refl)
 passed true false t = absurd (omega (arith, t))
 passed false b t = absurd (omega (arith, t))

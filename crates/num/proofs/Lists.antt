@@ -12,10 +12,11 @@ pub all-split : {X : Type 0} (P : X → Type 0) (xs ys : List X) → All P (xs +
 all-split P [] ys h = (tt, h)
 all-split P (x ∷ xs) ys (h, k) = let (l, r) = all-split P xs ys k in ((h, l), r)
 
-pub all-at : {X : Type 0} (P : X → Type 0) (xs : List X) (i : ℕ) (d : X) → i < length xs → All P xs → P (getD xs i d)
-all-at P [] i d l h = absurd (omega arith)
+-- what holds of each, and of what is read where there is nothing, holds at every place
+pub all-at : {X : Type 0} (P : X → Type 0) (xs : List X) (i : ℕ) (d : X) → P d → All P xs → P (getD xs i d)
+all-at P [] i d l h = l
 all-at P (x ∷ xs) zero d l (h, k) = h
-all-at P (x ∷ xs) (suc i) d l (h, k) = all-at P xs i d (omega arith) k
+all-at P (x ∷ xs) (suc i) d l (h, k) = all-at P xs i d l k
 
 -- of each, where one is set
 pub map-set : {X Y : Type 0} (f : X → Y) (xs : List X) (i : ℕ) (x : X) → map f (set xs i x) ≡ set (map f xs) i (f x)
@@ -53,6 +54,11 @@ module _ {X : Type 0} (f : ℕ → X) where
   getD-from zero i k d h = absurd (omega arith)
   getD-from (suc n) i zero d h = ap f (omega arith)
   getD-from (suc n) i (suc k) d h = getD-from n (suc i) k d (omega arith) ∙ ap f (omega arith)
+
+  pub all-from : (P : X → Type 0) → ((k : ℕ) → P (f k)) → (n i : ℕ) → All P (from n i f)
+  unfolding from
+  all-from P h zero i = tt
+  all-from P h (suc n) i = (h i, all-from P h n (suc i))
 
   -- a table that is the rule's list has the rule's value at each place
   pub table : (xs : List X) (n : ℕ) → xs ≡ from n 0 f → (k : ℕ) (d : X) → k < n → getD xs k d ≡ f k
