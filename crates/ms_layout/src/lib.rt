@@ -2,9 +2,10 @@
 use adpcm_ima::AdpcmImaState;
 use num::from_halves;
 use num::lesser;
+use num::monus;
 ghost use mathlib.Core.Path.{_≡_};
 ghost use mathlib.Core.Bool.{_&&_, _||_};
-ghost use Prim.Native.Nat.{_*_, _%_, _≤_};
+ghost use Prim.Native.Nat.{_*_, _%_, _≤_, min};
 ghost use lib.Dec.{eqb};
 ghost use Rattle.adpcm_ima.specs.View.{stateOf};
 ghost use Rattle.ms_layout.specs.Header.{headed};
@@ -50,6 +51,13 @@ fn even(c: usize, bytes: usize) -> bool
     ensures { λ r. ⌜ r ≡ (eqb c 1 || eqb (bytes % (4 * c)) 0) ⌝ }
 {
     if c == 1 { true } else { bytes % (4 * c) == 0 }
+}
+
+// As many samples as a block of so many bytes has; one of more than 65,536 is taken for one of that length, which is refused too.
+pub fn samples(channels: u8, bytes: usize) -> usize
+    ensures { λ r. ⌜ r ≡ samplesOf channels (min bytes 65536) ⌝ }
+{
+    monus(2 * lesser(bytes, 65536), 7 * (channels as usize))
 }
 
 // The state that a decoder starts a channel from.

@@ -1,3 +1,5 @@
-pub mod Channel
+pub mod Lengths
+pub mod Midway
+pub mod Settled
 pub mod Theorems
 pub mod Unlike

@@ -22,7 +22,7 @@ use Rattle.ms_block.proofs.Round.{channel-begun, samples-many, samples-within, 
 use Rattle.ms_block.proofs.Theorems.{own-samples-alone}
 use Rattle.repacking.specs.Repack.{Repacked, startsOf, repacked, differ, answered, repackRefusal, repackBlock}
 use Rattle.repacking.specs.Written.{Written, indexIn, SameIndices}
-use Rattle.repacking.proofs.Channel.{again, head-held, settled, same-channels, block-in, samples-shape, repacked-length, channel-again}
+use Rattle.repacking.proofs.Settled.{again, head-held, settled, same-channels, block-in, samples-shape, repacked-length, channel-again}
 use Rattle.repacking.proofs.Unlike.{alike, itself}
 
 -- ---- of the definitions

@@ -1,1 +1,117 @@
-// Repacking an MS block.
+// Repacking an MS block: what decoding it and encoding the samples again would give. It goes channel by channel and nibble by nibble,
+// with a state that reads and one that writes, so that no samples are kept.
+use adpcm_ima::AdpcmImaState;
+use adpcm_ima::IMA_STEP_TABLE;
+use adpcm_ima::Wide;
+use ms_layout::head;
+use ms_layout::refusal;
+use ms_layout::samples;
+use num::bits_of;
+use num::high_nibble;
+use num::low_nibble;
+use num::pack;
+ghost use mathlib.Core.Path.{_≡_};
+ghost use Prim.Native.Nat.{_+_, _<_};
+ghost use lib.ListN.{length};
+ghost use Rattle.adpcm_ima.specs.View.{stateOf};
+ghost use Rattle.ms_layout.specs.Header.{headOf};
+ghost use Rattle.ms_block.specs.Block.{bytesIn};
+ghost use Rattle.repacking.specs.Progress.{Alike, Upto};
+ghost use Rattle.repacking.specs.Repack.{repacked, differ, answered, repackRefusal, repackBlock};
+
+// `refusal` is 0 for done. A refusal leaves the buffer alone, and no byte changed.
+pub struct Answer {
+    pub refusal: u8,
+    pub changed: bool,
+}
+
+pub fn repack_adpcm_ima_ms(channels: u8, block: &[u8], out: &mut [u8]) -> Answer
+    ensures { λ r. ⌜ answered (r .refusal) (r .changed) (now (out .exit)) ≡ repackBlock channels (now (block .entry)) (now (out .entry)) ⌝ }
+{
+    let number = refused(channels, block.len(), out.len());
+    if number == 0 {
+        all(channels as usize, block, out);
+        Answer {
+            refusal: 0,
+            changed: differs(block, out),
+        }
+    } else {
+        Answer {
+            refusal: number,
+            changed: false,
+        }
+    }
+}
+
+fn refused(channels: u8, bytes: usize, others: usize) -> u8
+    ensures { λ r. ⌜ r ≡ repackRefusal channels bytes others ⌝ }
+{
+    let number = refusal(channels as usize, bytes, samples(channels, bytes));
+    if number != 0 {
+        return number;
+    }
+    if others == bytes { 0 } else { 2 }
+}
+
+fn differs(block: &[u8], out: &[u8]) -> bool
+    requires { ⌜ length (now block) ≡ length (now out) ⌝ }
+    ensures { λ r. ⌜ r ≡ differ (now (block .entry)) (now (out .entry)) ⌝ }
+{
+    let mut i = 0;
+    while i < block.len() {
+        if block[i] != out[i] {
+            return true;
+        }
+        i += 1;
+    }
+    false
+}
+
+fn all(c: usize, block: &[u8], out: &mut [u8])
+    requires { ⌜ Alike c (now block) (now out) ⌝ }
+    ensures { λ _. ⌜ now (out .exit) ≡ repacked c (now (block .entry)) ⌝ }
+{
+    let mut ch = 0;
+    while ch < c {
+        channel(c, ch, block, out);
+        ch += 1;
+    }
+}
+
+// One channel. What it reads and what it writes may part where a nibble cannot be reached.
+fn channel(c: usize, ch: usize, block: &[u8], out: &mut [u8])
+    requires { ⌜ Alike c (now block) (now out) × (ch < c) × Upto c (now block) ch 0 (now out) ⌝ }
+    ensures { λ _. ⌜ Upto c (now (block .entry)) (ch + 1) 0 (now (out .exit)) ⌝ }
+{
+    let steps = IMA_STEP_TABLE;
+    let share = block.len() / c;
+    let mut reads = Wide::of(header(c, ch, block, out));
+    let mut writes = reads;
+    let mut d = 4;
+    while d < share {
+        let at = 4 * (c * (d / 4) + ch) + d % 4;
+        let byte = block[at];
+        let between = reads.moved(&steps, low_nibble(byte));
+        reads = between.moved(&steps, high_nibble(byte));
+        let first = writes.coded(&steps, between.predictor);
+        let second = first.next.coded(&steps, reads.predictor);
+        writes = second.next;
+        out[at] = pack(first.nibble, second.nibble);
+        d += 1;
+    }
+}
+
+// A channel's header, as an encoder writes it that starts where the decoder does.
+fn header(c: usize, ch: usize, block: &[u8], out: &mut [u8]) -> AdpcmImaState
+    requires { ⌜ Alike c (now block) (now out) × (ch < c) × Upto c (now block) ch 0 (now out) ⌝ }
+    ensures { λ r. ⌜ (stateOf r ≡ headOf (bytesIn c (now (block .entry)) ch)) × Upto c (now (block .entry)) ch 4 (now (out .exit)) ⌝ }
+{
+    let at = 4 * ch;
+    let state = head(block[at], block[at + 1], block[at + 2]);
+    let bits = bits_of(state.predictor);
+    out[at] = (bits % 256) as u8;
+    out[at + 1] = (bits / 256) as u8;
+    out[at + 2] = state.step_index;
+    out[at + 3] = 0;
+    state
+}

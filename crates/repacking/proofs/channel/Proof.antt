@@ -1,0 +1,147 @@
+-- `repacking::channel` meets its contract: a byte is read by one state and written by another, and no other place is touched. Assumes nothing.
+use mathlib.Core.Path.{_≡_, refl, sym, ap, ap₂, _∙_, subst}
+use Prim.Native.Nat.{ℕ, suc, _+_, _-_, _*_, _/_, _%_, _≤_, _<_}
+use native.Mathlib.Nat.{div-le-self}
+use native.Mathlib.Omega.{arith}
+use lib.ListN.{length, getD, set, length-set}
+use mir.Syntax.{w16}
+use mir.Val.{SFits, toZ, ofZ}
+use mir.ValLaws.{toZ-ofZ}
+use borrow.Author.Needs.{needs}
+use Rattle.adpcm_ima.specs.Step.{sixteen, stepped, emitted}
+use Rattle.adpcm_ima.specs.Table.{imaSteps}
+use Rattle.adpcm_ima.specs.View.{stateOf, wideOf}
+use Rattle.ms_layout.specs.Sizes.{samplesOf}
+use Rattle.ms_layout.specs.Weave.{place}
+use Rattle.ms_layout.proofs.Sizes.{Shape, shape, four-bytes}
+use Rattle.repacking.proofs.Midway.{Midway, inside-block, start, turn, last}
+use Rattle.repacking.proofs.channel.Statement.{statement}
+use Rattle.repacking.proofs.channel.Tie as tie
+
+abbrev Inv-loop : tie.InvT-loop
+Inv-loop c ch block out₀ steps share reads₀ writes₀ d₀ out reads writes d =
+    Midway c block ch d out (wideOf reads) (wideOf writes) × (length out ≡ length block) × (4 ≤ d) × (d ≤ share)
+
+abbrev μ-loop : tie.MeasureT-loop
+μ-loop c ch block out₀ steps share reads₀ writes₀ d₀ out reads writes d = share - d
+
+-- the lengths
+is : (c : tie.Start Inv-loop μ-loop) → let n = length (c .args .block .now) in Shape (c .args .c) n (samplesOf (c .args .c) n)
+is c = let a = c .args in let n = length (a .block .now) in shape (a .c) n (samplesOf (a .c) n) (c .pre .0 .0)
+
+div-share : tie.Need-div-share Inv-loop μ-loop
+div-share c = omega (arith, c .before .before .pre .1)
+
+header-requires : tie.Need-header-requires Inv-loop μ-loop
+header-requires c κs = c .before .before .before .pre
+
+loop-holds : tie.Need-loop-holds Inv-loop μ-loop
+loop-holds c =
+    let s = c .before .before .before .before .before .before .before in
+    let made = c .before .before .before .header .ensures in (
+      start (s .args .block .now) (is s) (s .args .ch) (s .pre .1) (c .before .before .before .header .last .1 .1 .1 .0) (wideOf (c .of .result)) (c .of .ensures .0 ∙ made .0) (made .1),
+      c .before .before .out .given ∙ s .pre .0 .1,
+      omega arith,
+      four-bytes (is s),
+    )
+
+-- where a byte stands
+there : (c : tie.In-loop Inv-loop μ-loop) → let s = c .before .before .before .before .before .before .before .before .before in (place 4 (s .args .c) (s .args .ch) (c .before .loop .d) < length (s .args .block .now)) × (length (s .args .block .now) ≤ 65535)
+there c = let s = c .before .before .before .before .before .before .before .before .before in (inside-block (s .args .block .now) (is s) (s .args .ch) (c .before .loop .d) (s .pre .1) (c .loop-test .taken), is s .short)
+
+mul-at : tie.Need-mul-at Inv-loop μ-loop
+mul-at c = omega (arith, there c)
+
+add-at : tie.Need-add-at Inv-loop μ-loop
+add-at c = omega (arith, there c)
+
+mul-at-2 : tie.Need-mul-at-2 Inv-loop μ-loop
+mul-at-2 c = omega (arith, there c)
+
+add-at-2 : tie.Need-add-at-2 Inv-loop μ-loop
+add-at-2 c = omega (arith, there c)
+
+shared-slice-read-byte : tie.Need-shared-slice-read-byte Inv-loop μ-loop
+shared-slice-read-byte c = there (c .before) .0
+
+slice-write-out : tie.Need-slice-write-out Inv-loop μ-loop
+slice-write-out c = omega (arith, there (c .before .before .before .before .before .before .before .before .before .before .before .before .before .before .before), c .before .before .before .before .before .before .before .before .before .before .before .before .before .before .before .before .loop .inv .1)
+
+add-d : tie.Need-add-d Inv-loop μ-loop
+add-d c = let a = c .before .before .before .before .before .before .before .before .before .before .before .before .before .before .before .before .before .before .before .before .before .before .before .before .args in omega (arith, there (c .before .before .before .before .before .before .before .before .before .before .before .before .before .before .before), c .before .before .before .before .before .before .before .before .before .before .before .before .before .before .before .loop-test .taken, div-le-self (length (a .block .now)) (a .c))
+
+loop-less : tie.Need-loop-less Inv-loop μ-loop
+loop-less c = omega (arith, c .before .before .before .before .before .before .before .before .before .before .before .before .before .before .before .loop-test .taken)
+
+loop-again : tie.Need-loop-again Inv-loop μ-loop
+unfolding imaSteps
+loop-again c =
+    let loop = c .before .before .before .before .before .before .before .before .before .before .before .before .before .before .before .before .loop in
+    let s = c .before .before .before .before .before .before .before .before .before .before .before .before .before .before .before .before .before .before .before .before .before .before .before .before in
+    let a = s .args in
+    let between = c .before .before .before .before .before .before .before .before .before .before .before .moved .result in
+    let after = c .before .before .before .before .before .before .before .before .moved2 .result in
+    let first = c .before .before .before .before .before .coded .result in
+    let second = c .before .before .coded2 .result in
+    let f : SFits w16 (between .predictor) = search needs in
+    let g : SFits w16 (after .predictor) = search needs in
+    let byte = getD (a .block .now) (place 4 (a .c) (a .ch) (loop .d)) 0 in
+    let packed : c .pack .result ≡ 16 * second .nibble + first .nibble = c .pack .ensures ∙ omega (arith, c .before .before .before .before .before .coded .ensures .1, c .before .before .coded2 .ensures .1) in
+    let next : suc (loop .d) ≡ loop .d + 1 = omega arith in (
+      subst (λ (d : ℕ). Midway (a .c) (a .block .now) (a .ch) d (set (loop .out) (place 4 (a .c) (a .ch) (loop .d)) (c .pack .result)) (wideOf after) (wideOf (second .next))) next
+          (subst (λ (byte : ℕ). Midway (a .c) (a .block .now) (a .ch) (suc (loop .d)) (set (loop .out) (place 4 (a .c) (a .ch) (loop .d)) byte) (wideOf after) (wideOf (second .next))) (sym packed)
+          (turn (a .block .now) (is s) (a .ch) (s .pre .1) (loop .d) byte (first .nibble) (second .nibble) (loop .out)
+          (wideOf (loop .reads)) (wideOf between) (wideOf after) (wideOf (loop .writes)) (wideOf (first .next)) (wideOf (second .next))
+          (loop .inv .2) (c .before .before .before .before .before .before .before .before .before .before .before .before .before .before .before .loop-test .taken) (loop .inv .1) refl
+          (c .before .before .before .before .before .before .before .before .before .before .before .moved .ensures ∙ ap (stepped sixteen imaSteps (wideOf (loop .reads))) (c .before .before .before .before .before .before .before .before .before .before .before .before .low-nibble .ensures))
+          (c .before .before .before .before .before .before .before .before .moved2 .ensures ∙ ap (stepped sixteen imaSteps (wideOf between)) (c .before .before .before .before .before .before .before .before .before .high-nibble .ensures))
+          (c .before .before .before .before .before .coded .ensures .0 ∙ ap (emitted sixteen imaSteps (wideOf (loop .writes))) (toZ-ofZ w16 _ f))
+          (c .before .before .before .before .before .coded .ensures .2)
+          (c .before .before .coded2 .ensures .0 ∙ ap (emitted sixteen imaSteps (wideOf (first .next))) (toZ-ofZ w16 _ g))
+          (c .before .before .coded2 .ensures .2)
+          (loop .inv .0))),
+      length-set (loop .out) (place 4 (a .c) (a .ch) (loop .d)) (c .pack .result) ∙ loop .inv .1,
+      omega (arith, loop .inv .2),
+      omega (arith, c .before .before .before .before .before .before .before .before .before .before .before .before .before .before .before .loop-test .taken),
+    )
+
+same-length : tie.Need-same-length Inv-loop μ-loop
+same-length c = c .before .loop .inv .1 ∙ sym (c .before .before .before .before .before .before .before .before .before .pre .0 .1)
+
+returns : tie.Need-returns Inv-loop μ-loop
+returns c =
+    let s = c .before .before .before .before .before .before .before .before .before in
+    let a = s .args in
+    let loop = c .before .loop in
+    let whole : loop .d ≡ length (a .block .now) / a .c = omega (arith, c .loop-test .left, loop .inv .3) in
+    last (a .block .now) (is s) (a .ch) (s .pre .1) (loop .out) (wideOf (loop .reads)) (wideOf (loop .writes))
+    (subst (λ (d : ℕ). Midway (a .c) (a .block .now) (a .ch) d (loop .out) (wideOf (loop .reads)) (wideOf (loop .writes))) whole (loop .inv .0))
+
+pub channel-spec : {M : Type 1} → statement M
+channel-spec =
+    tie.close
+    (tie.spec
+    Inv-loop
+    μ-loop
+    div-share
+    header-requires
+    (λ c κs. search needs)
+    loop-holds
+    mul-at
+    add-at
+    mul-at-2
+    add-at-2
+    shared-slice-read-byte
+    (λ c κs. search needs)
+    (λ c κs. search needs)
+    (λ c κs. search needs)
+    (λ c κs. search needs)
+    (λ c κs. search needs)
+    (λ c κs. search needs)
+    (λ c κs. search needs)
+    slice-write-out
+    add-d
+    loop-less
+    loop-again
+    same-length
+    returns)

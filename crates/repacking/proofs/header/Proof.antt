@@ -1,0 +1,107 @@
+-- `repacking::header` meets its contract: its four bytes are those of the state that it was read as. Assumes nothing.
+use mathlib.Core.Path.{_≡_, sym, ap, ap₂, _∙_}
+use Prim.Native.Nat.{ℕ, _+_, _*_, _/_, _%_, _≤_}
+use native.Mathlib.Omega.{arith}
+use lib.ListN.{length, getD, set, length-set}
+use mir.Syntax.{w16}
+use mir.Val.{SFits}
+use mir.ValLaws.{toZ-ofZ}
+use borrow.Author.Needs.{needs}
+use Rattle.num.specs.Halves.{bitsOf}
+use Rattle.adpcm_ima.specs.View.{stateOf}
+use Rattle.ms_layout.specs.Header.{headOf, headed}
+use Rattle.ms_layout.specs.Sizes.{samplesOf}
+use Rattle.ms_layout.proofs.Sizes.{Shape, shape}
+use Rattle.ms_block.specs.Block.{bytesIn}
+use Rattle.repacking.proofs.Midway.{fourth, head-own, header-put}
+use Rattle.repacking.proofs.header.Statement.{statement}
+use Rattle.repacking.proofs.header.Tie as tie
+
+-- the lengths
+is : (c : tie.Start) → let n = length (c .args .block .now) in Shape (c .args .c) n (samplesOf (c .args .c) n)
+is c = let a = c .args in let n = length (a .block .now) in shape (a .c) n (samplesOf (a .c) n) (c .pre .0 .0)
+
+room : (c : tie.Start) → (4 * c .args .ch + 4 ≤ length (c .args .block .now)) × (length (c .args .block .now) ≤ 65535) × (length (c .args .out .now) ≡ length (c .args .block .now))
+room c = (fourth (c .args .block .now) (is c) (c .args .ch) (c .pre .1), is c .short, c .pre .0 .1)
+
+mul-at : tie.Need-mul-at
+mul-at c = omega (arith, room (c .before .before))
+
+shared-slice-read-head : tie.Need-shared-slice-read-head
+shared-slice-read-head c = omega (arith, room (c .before .before .before))
+
+add-head : tie.Need-add-head
+add-head c = omega (arith, room (c .before .before .before))
+
+shared-slice-read-head-2 : tie.Need-shared-slice-read-head-2
+shared-slice-read-head-2 c = omega (arith, room (c .before .before .before .before))
+
+add-head-2 : tie.Need-add-head-2
+add-head-2 c = omega (arith, room (c .before .before .before .before))
+
+shared-slice-read-head-3 : tie.Need-shared-slice-read-head-3
+shared-slice-read-head-3 c = omega (arith, room (c .before .before .before .before .before))
+
+slice-write-out : tie.Need-slice-write-out
+slice-write-out c = omega (arith, room (c .before .before .before .before .before .before .before .before))
+
+add-out : tie.Need-add-out
+add-out c = omega (arith, room (c .before .before .before .before .before .before .before .before))
+
+slice-write-out-2 : tie.Need-slice-write-out-2
+slice-write-out-2 c = omega (arith, room (c .before .before .before .before .before .before .before .before), length-set (c .before .before .before .before .before .before .before .before .args .out .now) (4 * c .before .before .before .before .before .before .before .before .args .ch) (c .bits-of .result % 256))
+
+add-out-2 : tie.Need-add-out-2
+add-out-2 c = omega (arith, room (c .before .before .before .before .before .before .before .before))
+
+slice-write-out-3 : tie.Need-slice-write-out-3
+slice-write-out-3 c =
+    let s = c .before .before .before .before .before .before .before .before in
+    let at = 4 * s .args .ch in
+    let o₁ = set (s .args .out .now) at (c .bits-of .result % 256) in
+    omega (arith, room s, length-set (s .args .out .now) at (c .bits-of .result % 256), length-set o₁ (at + 1) (c .bits-of .result / 256))
+
+add-out-3 : tie.Need-add-out-3
+add-out-3 c = omega (arith, room (c .before .before .before .before .before .before .before .before))
+
+slice-write-out-4 : tie.Need-slice-write-out-4
+slice-write-out-4 c =
+    let s = c .before .before .before .before .before .before .before .before in
+    let at = 4 * s .args .ch in
+    let o₁ = set (s .args .out .now) at (c .bits-of .result % 256) in
+    let o₂ = set o₁ (at + 1) (c .bits-of .result / 256) in
+    omega (arith, room s, length-set (s .args .out .now) at (c .bits-of .result % 256), length-set o₁ (at + 1) (c .bits-of .result / 256), length-set o₂ (at + 2) (c .before .before .head .result .«step_index»))
+
+returns : tie.Need-returns
+returns c =
+    let s = c .before .before .before .before .before .before .before .before in
+    let a = s .args in
+    let block = a .block .now in
+    let st = c .before .before .head .result in
+    let f : SFits w16 (st .predictor) = search needs in
+    let own = c .before .before .head .ensures ∙ sym (head-own block (is s) (a .ch) (s .pre .1)) in
+    (own, header-put block (is s) (a .ch) (s .pre .1) (a .out .now) (stateOf st) (c .bits-of .result) (s .pre .0 .1) own (c .bits-of .ensures .0 ∙ ap bitsOf (toZ-ofZ w16 _ f)) (s .pre .2))
+
+pub header-spec : {M : Type 1} → statement M
+header-spec =
+    tie.close
+    (tie.spec
+    mul-at
+    shared-slice-read-head
+    add-head
+    shared-slice-read-head-2
+    add-head-2
+    shared-slice-read-head-3
+    (λ c κs. search needs)
+    (λ c κs. search needs)
+    (λ c. search needs)
+    slice-write-out
+    (λ c. search needs)
+    add-out
+    slice-write-out-2
+    add-out-2
+    slice-write-out-3
+    add-out-3
+    slice-write-out-4
+    (λ c. search needs)
+    returns)

@@ -1,0 +1,48 @@
+-- `repacking::repack_adpcm_ima_ms` meets its contract: the buffer is the block repacked, and whether it differs is what was asked. Assumes nothing.
+use mathlib.Core.Path.{_≡_, refl, sym, ap, ap₂, _∙_}
+use mathlib.Core.Bool.{Bool}
+use mathlib.Core.List.{List}
+use Prim.Native.Nat.{ℕ}
+use lib.ListN.{length}
+use borrow.Author.Needs.{needs}
+use borrow.Author.Tests.{eq-eqb, ne-eqb}
+use Rattle.repacking.specs.Progress.{Alike}
+use Rattle.repacking.specs.Repack.{differ, answered, repackRefusal, repackBlock}
+use Rattle.repacking.proofs.Theorems.{allowed}
+use Rattle.repacking.proofs.repack_adpcm_ima_ms.Statement.{statement}
+use Rattle.repacking.proofs.repack_adpcm_ima_ms.Tie as tie
+
+-- the lengths, where the number is 0
+taken : (c : tie.Then1) → let a = c .before .before .before .before .args in Alike (a .channels) (a .block .now) (a .out .now)
+taken c =
+    let s = c .before .before .before .before in
+    let a = s .args in
+    allowed (a .channels) (length (a .block .now)) (length (a .out .now)) (sym (c .before .refused .ensures) ∙ c .if1 .taken)
+
+all-requires : tie.Need-all-requires
+all-requires c κs = taken (c .before)
+
+differs-requires : tie.Need-differs-requires
+differs-requires c κs =
+    let s = c .before .before .before .before .before in sym (c .before .before .out .given ∙ taken s .1)
+
+returns : tie.Need-returns
+unfolding repackBlock
+returns c =
+    let s = c .before .before .before .before .before .before in
+    let a = s .before .before .before .before .args in
+    let is = c .before .before .before .before .all .ensures in
+    rw (sym (s .before .refused .ensures) ∙ s .if1 .taken) (ap₂ (λ (b : Bool) (bs : List ℕ). answered 0 b bs) (c .differs .ensures ∙ ap (differ (a .block .now)) is) is)
+
+returns-2 : tie.Need-returns-2
+unfolding repackBlock
+returns-2 c =
+    let a = c .before .before .before .before .args in
+    let is = c .before .refused .ensures in
+    let other : repackRefusal (a .channels) (length (a .block .now)) (length (a .out .now)) ≡ 0 → ⊥ = λ e. c .if1 .left (is ∙ e) in
+    rw (ne-eqb (repackRefusal (a .channels) (length (a .block .now)) (length (a .out .now))) 0 other, is) refl
+
+pub repack-adpcm-ima-ms-spec : {M : Type 1} → statement M
+repack-adpcm-ima-ms-spec =
+    tie.close
+    (tie.spec (λ c κs. search needs) all-requires differs-requires (λ c. search needs) returns returns-2)
