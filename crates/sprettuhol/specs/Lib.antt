@@ -1,1 +1,2 @@
+pub mod Repack
 pub mod States

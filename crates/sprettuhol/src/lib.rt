@@ -7,6 +7,7 @@ use ima4::encode_adpcm_ima_ima4_run;
 use ms::decode_adpcm_ima_ms;
 use ms::encode_adpcm_ima_ms;
 use ms_layout::MOST;
+use repacking::repack_adpcm_ima_ms;
 use states::predictors_of;
 use states::states_of;
 use states::step_indices_of;
@@ -16,6 +17,7 @@ ghost use Rattle.adpcm_ima.specs.Step.{state, sixteen, stepped, emitted};
 ghost use Rattle.adpcm_ima.specs.Table.{imaSteps};
 ghost use Rattle.ima4.specs.Call.{answered, decodeRun, encodeRun};
 ghost use Rattle.ms_block.specs.Call as Ms;
+ghost use Rattle.sprettuhol.specs.Repack.{numbered, repackNumbers};
 ghost use Rattle.sprettuhol.specs.States.{statesOf};
 ghost use Rattle.g711.specs.Law.{mu-law, A-law, sampleOf, codeOf};
 
@@ -144,4 +146,21 @@ pub extern "C" fn spr_encode_ms(
     *predictors = predictors_of(after);
     *step_indices = step_indices_of(after);
     encoded_block.refusal
+}
+
+// A block decoded and encoded again, into a second buffer of equal length.
+#[no_mangle]
+pub extern "C" fn spr_repack_ms(
+    channels: u8,
+    block: &[u8],
+    repacked: &mut [u8],
+    changed: &mut u8,
+) -> u8
+    ensures { λ r. ⌜ numbered r (now (changed .exit)) (now (repacked .exit)) ≡ repackNumbers channels (now (block .entry)) (now (repacked .entry)) (now (changed .entry)) ⌝ }
+{
+    let answer = repack_adpcm_ima_ms(channels, block, repacked);
+    if answer.refusal == 0 {
+        *changed = answer.changed as u8;
+    }
+    answer.refusal
 }
