@@ -46,13 +46,13 @@ pub fn put_hex(out: &mut [u8], at: usize, bytes: &[u8]) -> usize
         return at;
     }
     let mut next = at;
-    let mut i = 0;
-    while i < n {
-        let byte = bytes[i];
+    let mut k = 0;
+    while k < n {
+        let byte = bytes[k];
         out[next] = digit(byte / 16);
         out[next + 1] = digit(byte % 16);
         next += 2;
-        i += 1;
+        k += 1;
     }
     next
 }

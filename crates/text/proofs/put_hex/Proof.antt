@@ -12,10 +12,10 @@ use Rattle.text.proofs.put_hex.Statement.{statement}
 use Rattle.text.proofs.put_hex.Tie as tie
 
 abbrev Inv-loop : tie.InvT-loop
-Inv-loop out₀ at bytes n next₀ i₀ out next i = (out ≡ paste out₀ at (hex bytes) (2 * i)) × (length out ≡ length out₀) × (next ≡ at + 2 * i) × (i ≤ n)
+Inv-loop out₀ at bytes n next₀ k₀ out next k = (out ≡ paste out₀ at (hex bytes) (2 * k)) × (length out ≡ length out₀) × (next ≡ at + 2 * k) × (k ≤ n)
 
 abbrev μ-loop : tie.MeasureT-loop
-μ-loop out₀ at bytes n next₀ i₀ out next i = n - i
+μ-loop out₀ at bytes n next₀ k₀ out next k = n - k
 
 returns : tie.Need-returns Inv-loop μ-loop
 returns c = let a = c .before .before .before .before .args in none-put (a .out .now) (a .at) (hex (a .bytes .now)) (omega (arith, hex-length (a .bytes .now)))
@@ -25,7 +25,7 @@ loop-holds c = let a = c .before .before .before .before .args in (paste-zero (a
 
 -- a byte has two digits
 digit-requires : tie.Need-digit-requires Inv-loop μ-loop
-digit-requires c κs = omega (arith, c .shared-slice-known2 .given (c .before .before .loop .i))
+digit-requires c κs = omega (arith, c .shared-slice-known2 .given (c .before .before .loop .k))
 
 slice-write-out-2 : tie.Need-slice-write-out-2 Inv-loop μ-loop
 slice-write-out-2 c =
@@ -39,15 +39,15 @@ loop-again c =
     let inv = at .loop .inv in
     let out = at .loop .out in
     let next = at .loop .next in
-    let i = at .loop .i in
+    let k = at .loop .k in
     let high = c .before .digit in
     let low = c .digit2 in
     let size = hex-length (a .bytes .now) in
     let fits : length (hex (a .bytes .now)) ≤ length (a .out .now) - a .at = omega (arith, size) in
-    let twice : 2 * i + 1 + 1 ≡ 2 * (i + 1) = omega arith in
-    let more : i < length (a .bytes .now) = omega arith in
-    let one = one-put (a .out .now) (a .at) (hex (a .bytes .now)) fits (2 * i) next (high .result) out (inv .2) (omega (arith, size)) (high .ensures ∙ sym (high-digit (a .bytes .now) i more)) (inv .0) in
-    let two = one-put (a .out .now) (a .at) (hex (a .bytes .now)) fits (2 * i + 1) (next + 1) (low .result) (set out next (high .result)) (omega arith) (omega (arith, size)) (low .ensures ∙ sym (low-digit (a .bytes .now) i more)) one in (
+    let twice : 2 * k + 1 + 1 ≡ 2 * (k + 1) = omega arith in
+    let more : k < length (a .bytes .now) = omega arith in
+    let one = one-put (a .out .now) (a .at) (hex (a .bytes .now)) fits (2 * k) next (high .result) out (inv .2) (omega (arith, size)) (high .ensures ∙ sym (high-digit (a .bytes .now) k more)) (inv .0) in
+    let two = one-put (a .out .now) (a .at) (hex (a .bytes .now)) fits (2 * k + 1) (next + 1) (low .result) (set out next (high .result)) (omega arith) (omega (arith, size)) (low .ensures ∙ sym (low-digit (a .bytes .now) k more)) one in (
       two ∙ ap (paste (a .out .now) (a .at) (hex (a .bytes .now))) twice,
       length-set (set out next (high .result)) (next + 1) (low .result) ∙ length-set out next (high .result) ∙ inv .1,
       omega arith,
@@ -59,7 +59,7 @@ returns-2 c =
     let at = c .before in
     let a = at .before .before .before .before .before .args in
     let size = hex-length (a .bytes .now) in
-    let last : 2 * at .loop .i ≡ length (hex (a .bytes .now)) = omega (arith, size) in
+    let last : 2 * at .loop .k ≡ length (hex (a .bytes .now)) = omega (arith, size) in
     all-put (a .out .now) (a .at) (hex (a .bytes .now)) (omega (arith, size)) (at .loop .next) (at .loop .out) (at .loop .inv .2 ∙ ap (λ (n : ℕ). a .at + n) last) (at .loop .inv .0 ∙ ap (paste (a .out .now) (a .at) (hex (a .bytes .now))) last)
 
 pub put-hex-spec : {M : Type 1} → statement M
