@@ -1,10 +1,10 @@
 -- What a program prints, byte by byte, and how it comes to stand in a buffer. Assumes nothing.
-use mathlib.Core.Bool.{cond}
+use mathlib.Core.Bool.{Bool, cond}
 use mathlib.Core.List.{List, [] as nothing, _∷_ as _then_, _++_}
 use Prim.Native.Char.{code}
-use Prim.Native.Nat.{ℕ, zero, suc, _+_, _/_, _%_}
+use Prim.Native.Nat.{ℕ, zero, suc, _+_, _-_, _/_, _%_}
 use Prim.Native.String.{String, [], _∷_}
-use lib.Dec.{ltb}
+use lib.Dec.{ltb, leb}
 use lib.ListN.{length, take, drop}
 
 -- The bytes of a text.
@@ -37,3 +37,14 @@ line text = text ++ ascii "\n"
 -- A buffer with a text put at a place of it, and what stood before and behind left as it was.
 abbrev pub put : List ℕ → ℕ → List ℕ → List ℕ
 put out at text = take at out ++ (text ++ drop (at + length text) out)
+
+-- A text fits from a place on if there are bytes enough. One that does not is not put: the buffer stays as it was,
+abbrev pub fits : List ℕ → ℕ → List ℕ → Bool
+fits out at text = leb (length text) (length out - at)
+
+unfoldable pub putIn : List ℕ → ℕ → List ℕ → List ℕ
+putIn out at text = cond (fits out at text) (put out at text) out
+
+-- and so does the place, which is behind the text otherwise.
+unfoldable pub placeAfter : List ℕ → ℕ → List ℕ → ℕ
+placeAfter out at text = cond (fits out at text) (at + length text) at
