@@ -2,7 +2,7 @@
 -- A number that fits is read back as it is, so each law begins there. Assumes nothing.
 use mathlib.Core.Path.{_≡_, refl, sym, ap, ap₂, _∙_, subst}
 use mathlib.Core.Bool.{Bool, true, false}
-use Prim.Native.Nat.{ℕ, zero, suc, _+_, _-_, _^_, _≤_, _<_}
+use Prim.Native.Nat.{ℕ, zero, suc, _+_, _-_, _^_, _≤_, _<_, max}
 use native.Mathlib.Omega.{arith}
 use lib.Dec.{T, ltb}
 use lib.IntN.{ℤ, pos, negsuc, negℤ, natAbs, subℕ, _+ℤ_, _-ℤ_}
@@ -46,6 +46,18 @@ mag-neg (pos zero) = omega arith
 mag-neg (pos (suc n)) = omega arith
 mag-neg (negsuc n) = omega arith
 
+sub-le : (a b : ℕ) → natAbs (subℕ a b) ≤ max a b
+sub-le a b = cases (ltb a b) (λ e. rw e (omega (arith, ltb-true a b e))) (λ e. rw e (omega arith))
+
+-- how far two numbers are apart
+pub apart-le : (x y : ℤ) → natAbs (x -ℤ y) ≤ suc (mag x + mag y)
+apart-le (pos a) (pos zero) = omega arith
+apart-le (pos a) (pos (suc b)) = let h = sub-le a (suc b) in omega arith
+apart-le (pos a) (negsuc b) = omega arith
+apart-le (negsuc a) (pos zero) = let h = sub-le 0 (suc a) in omega arith
+apart-le (negsuc a) (pos (suc b)) = omega arith
+apart-le (negsuc a) (negsuc b) = let h = sub-le (suc b) (suc a) in omega arith
+
 -- ---- what is read back
 
 -- a number of 16 bits, widened to 32
@@ -61,6 +73,27 @@ compared {w} {a} {b} f g t = sym (ap₂ ltZ (toZ-ofZ w a f) (toZ-ofZ w b g)) ∙
 
 pub signed : {w : Width} {x : ℤ} {is : Bool} → SFits w x → ltZ (toZ w (ofZ w x)) (pos 0) ≡ is → ltZ x (pos 0) ≡ is
 signed {w} {x} f t = sym (ap (λ (z : ℤ). ltZ z (pos 0)) (toZ-ofZ w x f)) ∙ t
+
+-- the difference of two numbers of 16 bits, made in 32
+module _ {x y : ℤ} (f : SFits w16 x) (g : SFits w16 y) where
+  pub difference-is : toZ w32 (ofZ w32 (toZ w16 (ofZ w16 x))) -ℤ toZ w32 (ofZ w32 (toZ w16 (ofZ w16 y))) ≡ x -ℤ y
+  difference-is = ap₂ _-ℤ_ (widened x f) (widened y g)
+
+  pub difference-small : mag (x -ℤ y) < 131072
+  difference-small = let h = mag-add x (negℤ y) in let k = mag-neg y in omega (arith, f .sfits, g .sfits)
+
+  pub difference-fits : SFits w32 (toZ w32 (ofZ w32 (toZ w16 (ofZ w16 x))) -ℤ toZ w32 (ofZ w32 (toZ w16 (ofZ w16 y))))
+  difference-fits = rw difference-is (record { sfits = omega (arith, difference-small) })
+
+-- how large a number is: 0 less it where it is negative, and the number itself elsewhere
+module _ (x : ℤ) (f : SFits w32 x) where
+  pub absolute-negative : ltZ (toZ w32 (ofZ w32 x)) (pos 0) ≡ true → pos 0 -ℤ toZ w32 (ofZ w32 x) ≡ pos (natAbs x)
+  absolute-negative t =
+      let e = negative x (signed f t) in
+      ap (λ (z : ℤ). pos 0 -ℤ z) (toZ-ofZ w32 x f ∙ e) ∙ ap pos (omega (arith, ap natAbs e))
+
+  pub absolute-positive : ltZ (toZ w32 (ofZ w32 x)) (pos 0) ≡ false → x ≡ pos (natAbs x)
+  absolute-positive t = let e = positive x (signed f t) in e ∙ ap pos (sym (ap natAbs e))
 
 -- a number that 16 bits hold, narrowed from 32
 module _ (x : ℤ) (h : mag x ≤ 32767) where

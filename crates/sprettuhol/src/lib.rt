@@ -4,6 +4,8 @@ mod states;
 use adpcm_ima::AdpcmImaState;
 use ima4::decode_adpcm_ima_ima4_run;
 use ima4::encode_adpcm_ima_ima4_run;
+use loss::First;
+use loss::loss_report;
 use ms::decode_adpcm_ima_ms;
 use ms::encode_adpcm_ima_ms;
 use ms_layout::MOST;
@@ -16,7 +18,9 @@ ghost use mathlib.Core.List.{[]};
 ghost use Rattle.adpcm_ima.specs.Step.{state, sixteen, stepped, emitted};
 ghost use Rattle.adpcm_ima.specs.Table.{imaSteps};
 ghost use Rattle.ima4.specs.Call.{answered, decodeRun, encodeRun};
+ghost use Rattle.loss.specs.Loss.{placeOf};
 ghost use Rattle.ms_block.specs.Call as Ms;
+ghost use Rattle.sprettuhol.specs.Loss.{orMax, stored, lossCall};
 ghost use Rattle.sprettuhol.specs.Repack.{numbered, repackNumbers};
 ghost use Rattle.sprettuhol.specs.States.{statesOf};
 ghost use Rattle.g711.specs.Law.{mu-law, A-law, sampleOf, codeOf};
@@ -163,4 +167,36 @@ pub extern "C" fn spr_repack_ms(
         *changed = answer.changed as u8;
     }
     answer.refusal
+}
+
+// The loss report. Lengths that do not fit are refused by 2, and then nothing is stored.
+#[no_mangle]
+pub extern "C" fn spr_loss(
+    before: &[i16],
+    after: &[i16],
+    count: &mut u32,
+    first: &mut u32,
+    peak: &mut u16,
+) -> u8
+    ensures { λ r. ⌜ stored r (now (count .exit)) (now (first .exit)) (now (peak .exit)) ≡ lossCall (now (before .entry)) (now (after .entry)) (now (count .entry)) (now (first .entry)) (now (peak .entry)) ⌝ }
+{
+    let report = loss_report(before, after);
+    if report.refusal != 0 {
+        return report.refusal;
+    }
+    let place = report.first;
+    *count = report.count;
+    *first = or_max(place);
+    *peak = report.peak;
+    0
+}
+
+// The place, or UINT32_MAX for none.
+fn or_max(first: First) -> u32
+    ensures { λ r. ⌜ r ≡ orMax (placeOf first) ⌝ }
+{
+    match first {
+        First::At(k) => k,
+        First::Nowhere => 4294967295,
+    }
 }

@@ -1,0 +1,55 @@
+-- What the report says of equal runs, and of no others. Assumes nothing.
+use mathlib.Core.Path.{_≡_, refl, sym, ap, ap₂, _∙_}
+use mathlib.Core.List.{List, [], _∷_}
+use mathlib.Core.Option.{none}
+use Prim.Native.Nat.{ℕ, zero, suc, _≤_}
+use native.Mathlib.Omega.{arith}
+use lib.Dec.{eqb}
+use lib.IntN.{ℤ, pos, negsuc, natAbs, _+ℤ_, _-ℤ_, +ℤ-idl, +ℤ-invr, -ℤ-+ℤ-cancel}
+use lib.ListN.{length}
+use borrow.Author.Tests.{le-leb, eq-eqb, eqb-true}
+use borrow.Table.Steps.{cases}
+use Rattle.loss.specs.Loss.{distance, distances, countOf, firstFrom, largest, reported, reportOf, lossReport}
+
+-- ---- two samples
+
+size-0 : (z : ℤ) → natAbs z ≡ 0 → z ≡ pos 0
+size-0 (pos n) e = ap pos e
+size-0 (negsuc n) e = absurd (omega arith)
+
+met : (x y : ℤ) → distance x y ≡ 0 → x ≡ y
+met x y e = sym (-ℤ-+ℤ-cancel x y) ∙ ap (λ (z : ℤ). z +ℤ y) (size-0 (x -ℤ y) e) ∙ +ℤ-idl y
+
+itself : (x : ℤ) → distance x x ≡ 0
+itself x = ap natAbs (+ℤ-invr x)
+
+-- ---- two runs
+
+none-differ : (xs ys : List ℤ) → length xs ≡ length ys → countOf (distances xs ys) ≡ 0 → xs ≡ ys
+unfolding distances countOf
+none-differ [] [] l e = refl
+none-differ [] (y ∷ ys) l e = absurd (omega arith)
+none-differ (x ∷ xs) [] l e = absurd (omega arith)
+none-differ (x ∷ xs) (y ∷ ys) l e =
+    cases (eqb (distance x y) 0)
+    (λ t. ap₂ _∷_ (met x y (eqb-true (distance x y) 0 t)) (none-differ xs ys (omega arith) (omega (arith, rw t at e))))
+    (λ t. absurd (omega (arith, rw t at e)))
+
+nothing : (xs : List ℤ) (i : ℕ)
+    → (countOf (distances xs xs) ≡ 0) × (firstFrom i (distances xs xs) ≡ none) × (largest (distances xs xs) ≡ 0)
+unfolding distances countOf firstFrom largest
+nothing [] i = (refl, refl, refl)
+nothing (x ∷ xs) i = let (c, f, l) = nothing xs (suc i) in rw (itself x) (omega arith, f, omega arith)
+
+module _ (xs ys : List ℤ) (same : length xs ≡ length ys) (few : length xs ≤ 131063) where
+  fits : lossReport xs ys ≡ reportOf (distances xs ys)
+  unfolding lossReport
+  fits = rw (eq-eqb (length xs) (length ys) same, le-leb (length xs) 131063 few) refl
+
+  -- The count is 0 only where the two runs are equal,
+  pub equal-if-none : lossReport xs ys .count ≡ 0 → xs ≡ ys
+  equal-if-none e = none-differ xs ys same (ap (λ r. r .count) (sym fits) ∙ e)
+
+  -- and where they are, there is nothing to report: no place, no first one, and a peak of 0.
+  pub none-if-equal : xs ≡ ys → lossReport xs ys ≡ reported 0 0 none 0
+  none-if-equal e = let (c, f, l) = nothing xs 0 in fits ∙ ap (λ (zs : List ℤ). reportOf (distances xs zs)) (sym e) ∙ rw (c, f, l) refl

@@ -1,0 +1,19 @@
+-- What the code keeps while it looks. Assumes nothing.
+use mathlib.Core.Bool.{cond}
+use mathlib.Core.List.{List, [], _∷_}
+use mathlib.Core.Option.{Option, none, some}
+use Prim.Native.Nat.{ℕ, suc, _-_}
+use lib.Dec.{eqb}
+use lib.ListN.{length}
+
+-- A number, where there is a difference.
+abbrev pub whereDiffers : ℕ → ℕ → ℕ
+whereDiffers d x = cond (eqb d 0) 0 x
+
+-- How many places are left from the first that differs on, 0 if none differs; and which place that is of n.
+unfoldable pub leftOf : List ℕ → ℕ
+leftOf [] = 0
+leftOf (d ∷ ds) = cond (eqb d 0) (leftOf ds) (suc (length ds))
+
+abbrev pub placed : ℕ → ℕ → Option ℕ
+placed n left = cond (eqb left 0) none (some (n - left))
