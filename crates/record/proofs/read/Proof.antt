@@ -36,9 +36,9 @@ read-spec =
     tie.close
     (tie.spec
     (λ c κs. search needs)
-    (λ c. four (c .before))
-    (λ c. four (c .before .before))
-    (λ c. four (c .before .before))
+    (λ c. omega (arith, four (c .before)))
+    (λ c. omega (arith, four (c .before .before)))
+    (λ c. omega (arith, four (c .before .before)))
     (λ c. search needs)
     (λ c κs. search needs)
     returns
