@@ -1,15 +1,16 @@
 -- What the program `repack` prints. Assumes nothing.
+use mathlib.Core.Path.{_≡_}
 use mathlib.Core.Bool.{cond}
 use mathlib.Core.List.{List, _++_}
 use mathlib.Core.Option.{Option, none, some}
-use Prim.Native.Nat.{ℕ}
+use Prim.Native.Nat.{ℕ, _+_}
 use lib.Dec.{eqb}
 use lib.ListN.{length}
 use Rattle.ms_block.specs.Block.{decodedBlock}
 use Rattle.repacking.specs.Repack.{repacked, differ, repackRefusal}
 use Rattle.loss.specs.Loss.{Reported, lossReport}
-use Rattle.text.specs.Text.{ascii, hex, decimal, line}
+use Rattle.text.specs.Text.{ascii, hex, decimal, line, put}
 use Rattle.record.specs.Record.{channelsOf, blockOf, wellFormed}
 
 -- It prints `refused N`;
 abbrev pub refused : ℕ → List ℕ
@@ -38,8 +39,12 @@ told c block =
     cond (differ block new) (changed (lossOf c block new)) same ++ line (hex new)
 
 -- 4 is tested first, then 1 and 2.
+unfoldable pub answered : ℕ → List ℕ → List ℕ
+answered c block = let number = repackRefusal c (length block) (length block) in cond (eqb number 0) (told c block) (refused number)
+
 unfoldable pub answerTo : List ℕ → List ℕ
-answerTo input =
-    let block = blockOf input in
-    let number = repackRefusal (channelsOf input) (length block) (length block) in
-    cond (wellFormed input) (cond (eqb number 0) (told (channelsOf input) block) (refused number)) (refused 4)
+answerTo input = cond (wellFormed input) (answered (channelsOf input) (blockOf input)) (refused 4)
+
+-- A text put at a place of a buffer: it says where the next would stand, and the rest of the buffer is left as it was.
+abbrev pub Stands : List ℕ → ℕ → List ℕ → ℕ → List ℕ → Type 0
+Stands out at s place buffer = (place ≡ at + length s) × (buffer ≡ put out at s)

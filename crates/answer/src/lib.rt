@@ -1,0 +1,101 @@
+// What the program `repack` answers to a record, as the bytes that it prints.
+use loss::First;
+use loss::Loss;
+use loss::loss_report;
+use ms::decode_adpcm_ima_ms;
+use ms_layout::samples;
+use record::read;
+use repacking::repack_adpcm_ima_ms;
+use text::put;
+use text::put_decimal;
+use text::put_hex;
+ghost use mathlib.Core.Path.{_≡_};
+ghost use Prim.Native.Nat.{_+_, _*_, _≤_};
+ghost use lib.ListN.{length};
+ghost use Rattle.loss.specs.Loss.{placeOf, reported};
+ghost use Rattle.repacking.specs.Repack.{repackRefusal};
+ghost use Rattle.text.specs.Text as Text;
+ghost use Rattle.answer.specs.Answer as Says;
+ghost use Rattle.answer.specs.Answer.{answerTo, Stands};
+
+// The longest answer: three numbers of ten digits at most, among 22 other bytes, and a block of 4,096 bytes in hex.
+pub const ROOM: usize = 8245;
+
+// Puts the answer at the start of `out`, and says how long it is.
+pub fn answer(input: &[u8], out: &mut [u8; ROOM]) -> usize
+    ensures { λ r. ⌜ Stands (now (out .entry)) 0 (answerTo (now (input .entry))) r (now (out .exit)) ⌝ }
+{
+    let mut block = [0u8; 4096];
+    let record = read(input, &mut block);
+    if record.refusal != 0 {
+        return refused(record.refusal, out);
+    }
+    let n = record.length;
+    told(record.channels, &block[..n], out)
+}
+
+// `refused N`
+fn refused(number: u8, out: &mut [u8; ROOM]) -> usize
+    ensures { λ r. ⌜ Stands (now (out .entry)) 0 (Says.refused number) r (now (out .exit)) ⌝ }
+{
+    let word = put(out, 0, b"refused ");
+    let end = put_decimal(out, word, number as u32);
+    put(out, end, b"\n")
+}
+
+// The answer to a block: what repacking made of it, and then the new block.
+fn told(channels: u8, block: &[u8], out: &mut [u8; ROOM]) -> usize
+    requires { ⌜ length (now block) ≤ 4096 ⌝ }
+    ensures { λ r. ⌜ Stands (now (out .entry)) 0 (Says.answered channels (now (block .entry))) r (now (out .exit)) ⌝ }
+{
+    let n = block.len();
+    let mut new = [0u8; 4096];
+    let repacked = repack_adpcm_ima_ms(channels, block, &mut new[..n]);
+    if repacked.refusal != 0 {
+        return refused(repacked.refusal, out);
+    }
+    let line = if repacked.changed {
+        changed(channels, block, &new[..n], out)
+    } else {
+        put(out, 0, b"same\n")
+    };
+    let end = put_hex(out, line, &new[..n]);
+    put(out, end, b"\n")
+}
+
+// What became of the samples of a block that was repacked.
+fn changed(channels: u8, old: &[u8], new: &[u8], out: &mut [u8; ROOM]) -> usize
+    requires { ⌜ (length (now old) ≤ 4096) × (repackRefusal channels (length (now old)) (length (now new)) ≡ 0) ⌝ }
+    ensures { λ r. ⌜ Stands (now (out .entry)) 0 (Says.changed (Says.lossOf channels (now (old .entry)) (now (new .entry)))) r (now (out .exit)) ⌝ }
+{
+    let m = samples(channels, old.len());
+    let mut before = [0i16; 8185];
+    let mut after = [0i16; 8185];
+    decode_adpcm_ima_ms(channels, old, &mut before[..m]);
+    decode_adpcm_ima_ms(channels, new, &mut after[..m]);
+    line(loss_report(&before[..m], &after[..m]), out)
+}
+
+// `changed C first F peak P`
+fn line(loss: Loss, out: &mut [u8; ROOM]) -> usize
+    ensures { λ r. ⌜ Stands (now (out .entry)) 0 (Says.changed (reported (loss .refusal) (loss .count) (placeOf (loss .first)) (loss .peak))) r (now (out .exit)) ⌝ }
+{
+    let word = put(out, 0, b"changed ");
+    let count = put_decimal(out, word, loss.count);
+    let second = put(out, count, b" first ");
+    let first = loss.first;
+    let place = put_place(out, second, first);
+    let third = put(out, place, b" peak ");
+    let peak = put_decimal(out, third, loss.peak as u32);
+    put(out, peak, b"\n")
+}
+
+// A place, or `-` for none.
+fn put_place(out: &mut [u8; ROOM], at: usize, first: First) -> usize
+    ensures { λ r. ⌜ (r ≡ Text.placeAfter (now (out .entry)) at (Says.place (placeOf first))) × (now (out .exit) ≡ Text.putIn (now (out .entry)) at (Says.place (placeOf first))) ⌝ }
+{
+    match first {
+        First::At(k) => put_decimal(out, at, k),
+        First::Nowhere => put(out, at, b"-"),
+    }
+}
