@@ -2,14 +2,15 @@
 use mathlib.Core.Path.{_≡_, refl, sym, ap, ap₂, _∙_}
 use mathlib.Core.List.{List, [], _∷_}
 use mathlib.Core.Option.{none}
-use Prim.Native.Nat.{ℕ, zero, suc, _≤_}
+use Prim.Native.Nat.{ℕ, suc, _≤_}
 use native.Mathlib.Omega.{arith}
 use lib.Dec.{eqb}
 use lib.IntN.{ℤ, pos, negsuc, natAbs, _+ℤ_, _-ℤ_, +ℤ-idl, +ℤ-invr, -ℤ-+ℤ-cancel}
 use lib.ListN.{length}
-use borrow.Author.Tests.{le-leb, eq-eqb, eqb-true}
+use borrow.Author.Tests.{eqb-true}
 use borrow.Table.Steps.{cases}
 use Rattle.loss.specs.Loss.{distance, distances, countOf, firstFrom, largest, reported, reportOf, lossReport}
+use Rattle.loss.proofs.Places.{taken}
 
 -- ---- two samples
 
@@ -42,14 +43,12 @@ nothing [] i = (refl, refl, refl)
 nothing (x ∷ xs) i = let (c, f, l) = nothing xs (suc i) in rw (itself x) (omega arith, f, omega arith)
 
 module _ (xs ys : List ℤ) (same : length xs ≡ length ys) (few : length xs ≤ 131063) where
-  fits : lossReport xs ys ≡ reportOf (distances xs ys)
-  unfolding lossReport
-  fits = rw (eq-eqb (length xs) (length ys) same, le-leb (length xs) 131063 few) refl
-
   -- The count is 0 only where the two runs are equal,
   pub equal-if-none : lossReport xs ys .count ≡ 0 → xs ≡ ys
-  equal-if-none e = none-differ xs ys same (ap (λ r. r .count) (sym fits) ∙ e)
+  equal-if-none e = none-differ xs ys same (ap (λ r. r .count) (sym (taken xs ys same few)) ∙ e)
 
-  -- and where they are, there is nothing to report: no place, no first one, and a peak of 0.
+  -- and where they are, nothing is reported: no place differs, there is no first one, and the peak is 0.
   pub none-if-equal : xs ≡ ys → lossReport xs ys ≡ reported 0 0 none 0
-  none-if-equal e = let (c, f, l) = nothing xs 0 in fits ∙ ap (λ (zs : List ℤ). reportOf (distances xs zs)) (sym e) ∙ rw (c, f, l) refl
+  none-if-equal e =
+      let (c, f, l) = nothing xs 0 in
+      taken xs ys same few ∙ ap (λ (zs : List ℤ). reportOf (distances xs zs)) (sym e) ∙ rw (c, f, l) refl

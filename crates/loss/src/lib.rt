@@ -5,8 +5,8 @@ ghost use mathlib.Core.Path.{_≡_};
 ghost use Prim.Native.Nat.{_<_, _≤_};
 ghost use lib.ListN.{length};
 ghost use Rattle.loss.specs.Loss as Report;
-ghost use Rattle.loss.specs.Loss.{distances, countOf, placeOf, reported, lossReport};
-ghost use Rattle.loss.specs.Seen.{whereDiffers, leftOf, placed};
+ghost use Rattle.loss.specs.Loss.{distances, placeOf, reported, lossReport};
+ghost use Rattle.loss.specs.Seen.{whereDiffers, placed, Sees};
 
 // The first place that differs, counted from 0.
 pub enum First {
@@ -43,18 +43,19 @@ pub fn loss_report(before: &[i16], after: &[i16]) -> Loss
     }
 }
 
-// What was seen of the places, in numbers: how many differ, how many are left from the first of them on, and the largest difference.
+// What was seen of the places: how many differ, how many are left from the first of those on, 0 if none does, and the largest difference.
 struct Seen {
     count: u32,
     left: u32,
     largest: u32,
 }
 
-// All three are made without a branch.
+// Each number grows by a sum or to the larger of two, so no turn has a branch, and the compiler takes several places at once.
 fn look(before: &[i16], after: &[i16]) -> Seen
-    requires { ⌜ (length (now after) ≡ length (now before)) × (length (now before) < 4294967296) ⌝ }
-    ensures { λ r. ⌜ (r .count ≡ countOf (distances (now (before .entry)) (now (after .entry)))) × (r .left ≡ leftOf (distances (now (before .entry)) (now (after .entry)))) × (r .largest ≡ Report.largest (distances (now (before .entry)) (now (after .entry)))) ⌝ }
+    requires { ⌜ (length (now before) ≡ length (now after)) × (length (now before) < 4294967296) ⌝ }
+    ensures { λ r. ⌜ Sees (distances (now (before .entry)) (now (after .entry))) (r .count) (r .left) (r .largest) ⌝ }
 {
+    let n = before.len() as u32;
     let mut count = 0;
     let mut left = 0;
     let mut largest = 0;
@@ -62,7 +63,7 @@ fn look(before: &[i16], after: &[i16]) -> Seen
     while i < before.len() {
         let d = distance(before[i], after[i]);
         count += where_differs(d, 1);
-        left = larger(left, where_differs(d, (before.len() - i) as u32));
+        left = larger(left, where_differs(d, n - i as u32));
         largest = larger(largest, d);
         i += 1;
     }
@@ -92,7 +93,7 @@ fn where_differs(d: u32, x: u32) -> u32
     if d == 0 { 0 } else { x }
 }
 
-// Of n places so many are left from the first that differs on.
+// The first place that differs, of n, where so many are left from it on.
 fn place(n: u32, left: u32) -> First
     requires { ⌜ left ≤ n ⌝ }
     ensures { λ r. ⌜ placeOf r ≡ placed n left ⌝ }

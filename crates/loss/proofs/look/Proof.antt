@@ -1,5 +1,5 @@
--- `loss::look` meets its contract: a turn looks at one place more. Assumes nothing.
-use mathlib.Core.Path.{_≡_, refl, ap₂, _∙_}
+-- `loss::look` meets its contract: each turn keeps what one place more shows, until all places are looked at. Assumes nothing.
+use mathlib.Core.Path.{ap₂, _∙_}
 use Prim.Native.Nat.{_-_, _≤_}
 use native.Mathlib.Omega.{arith}
 use lib.IntN.{pos}
@@ -14,10 +14,10 @@ use Rattle.loss.proofs.look.Statement.{statement}
 use Rattle.loss.proofs.look.Tie as tie
 
 abbrev Inv-loop : tie.InvT-loop
-Inv-loop before after count₀ left₀ largest₀ i₀ count left largest i = Kept before after count left largest i × (count ≤ i) × (i ≤ length before)
+Inv-loop before after n count₀ left₀ largest₀ i₀ count left largest i = Kept before after count left largest i × (count ≤ i) × (i ≤ length before)
 
 abbrev μ-loop : tie.MeasureT-loop
-μ-loop before after count₀ left₀ largest₀ i₀ count left largest i = length before - i
+μ-loop before after n count₀ left₀ largest₀ i₀ count left largest i = length before - i
 
 loop-holds : tie.Need-loop-holds Inv-loop μ-loop
 loop-holds c = (none _ _, omega arith, omega arith)
@@ -30,9 +30,10 @@ loop-again c =
     let f : SFits w16 (getD (a .before .now) i (pos 0)) = search needs in
     let g : SFits w16 (getD (a .after .now) i (pos 0)) = search needs in
     let d-is = c .before .before .before .before .distance .ensures .0 ∙ ap₂ distance (toZ-ofZ w16 _ f) (toZ-ofZ w16 _ g) in
-    let one = c .before .before .before .where-differs .ensures in
-    let more = c .before .before .where-differs2 .ensures in
-    (one-more (a .before .now) (a .after .now) (at .before .pre .0) i (search needs) (at .loop .inv .0) d-is (one .0) (more .0) (c .before .larger .ensures) (c .larger2 .ensures), search needs, search needs)
+    let one-is = c .before .before .before .where-differs .ensures .0 in
+    let more-is = c .before .before .where-differs2 .ensures .0 in
+    let kept = one-more (a .before .now) (a .after .now) (at .before .pre .0) i (search needs) (at .loop .inv .0) in
+    (kept d-is one-is more-is (c .before .larger .ensures) (c .larger2 .ensures), search needs, search needs)
 
 returns : tie.Need-returns Inv-loop μ-loop
 returns c =
@@ -46,6 +47,7 @@ look-spec =
     (tie.spec
     Inv-loop
     μ-loop
+    (λ c. search needs)
     loop-holds
     (λ c. search needs)
     (λ c. search needs)
