@@ -3,9 +3,10 @@ use mathlib.Core.Path.{_≡_}
 use mathlib.Core.Bool.{cond}
 use mathlib.Core.List.{List, _++_}
 use mathlib.Core.Option.{Option, none, some}
-use Prim.Native.Nat.{ℕ, _+_}
+use Prim.Native.Nat.{ℕ, _+_, _≤_}
 use lib.Dec.{eqb}
 use lib.ListN.{length}
+use Rattle.ms_layout.specs.Sizes.{samplesOf, Taken}
 use Rattle.ms_block.specs.Block.{decodedBlock}
 use Rattle.repacking.specs.Repack.{repacked, differ, repackRefusal}
 use Rattle.loss.specs.Loss.{Reported, lossReport}
@@ -26,7 +27,7 @@ place none = ascii "-"
 place (some k) = decimal k
 
 abbrev pub changed : Reported → List ℕ
-changed r = line (ascii "changed " ++ (decimal (r .count) ++ (ascii " first " ++ (place (r .first) ++ (ascii " peak " ++ decimal (r .peak))))))
+changed r = line (ascii "changed " ++ decimal (r .count) ++ ascii " first " ++ place (r .first) ++ ascii " peak " ++ decimal (r .peak))
 
 -- the loss report of old against new samples.
 abbrev pub lossOf : ℕ → List ℕ → List ℕ → Reported
@@ -36,7 +37,7 @@ lossOf c old new = lossReport (decodedBlock c old) (decodedBlock c new)
 unfoldable pub told : ℕ → List ℕ → List ℕ
 told c block =
     let new = repacked c block in
-    cond (differ block new) (changed (lossOf c block new)) same ++ line (hex new)
+    line (cond (differ block new) (changed (lossOf c block new)) same ++ hex new)
 
 -- 4 is tested first, then 1 and 2.
 unfoldable pub answered : ℕ → List ℕ → List ℕ
@@ -48,3 +49,7 @@ answerTo input = cond (wellFormed input) (answered (channelsOf input) (blockOf i
 -- A text put at a place of a buffer: it says where the next would stand, and the rest of the buffer is left as it was.
 abbrev pub Stands : List ℕ → ℕ → List ℕ → ℕ → List ℕ → Type 0
 Stands out at s place buffer = (place ≡ at + length s) × (buffer ≡ put out at s)
+
+-- A block that is taken, and no longer than a record's.
+abbrev pub Small : ℕ → List ℕ → Type 0
+Small c block = Taken c (length block) (samplesOf c (length block)) × (length block ≤ 4096)

@@ -11,12 +11,13 @@ use text::put_decimal;
 use text::put_hex;
 ghost use mathlib.Core.Path.{_≡_};
 ghost use Prim.Native.Nat.{_+_, _*_, _≤_};
-ghost use lib.ListN.{length};
+ghost use lib.ListN.{length, take};
 ghost use Rattle.loss.specs.Loss.{placeOf, reported};
-ghost use Rattle.repacking.specs.Repack.{repackRefusal};
+ghost use Rattle.ms_block.specs.Block.{decodedBlock};
+ghost use Rattle.ms_layout.specs.Sizes.{samplesOf};
 ghost use Rattle.text.specs.Text as Text;
 ghost use Rattle.answer.specs.Answer as Says;
-ghost use Rattle.answer.specs.Answer.{answerTo, Stands};
+ghost use Rattle.answer.specs.Answer.{answerTo, Stands, Small};
 
 // The longest answer: three numbers of ten digits at most, among 22 other bytes, and a block of 4,096 bytes in hex.
 pub const ROOM: usize = 8245;
@@ -25,7 +26,7 @@ pub const ROOM: usize = 8245;
 pub fn answer(input: &[u8], out: &mut [u8; ROOM]) -> usize
     ensures { λ r. ⌜ Stands (now (out .entry)) 0 (answerTo (now (input .entry))) r (now (out .exit)) ⌝ }
 {
-    let mut block = [0u8; 4096];
+    let mut block = no_bytes();
     let record = read(input, &mut block);
     if record.refusal != 0 {
         return refused(record.refusal, out);
@@ -49,7 +50,7 @@ fn told(channels: u8, block: &[u8], out: &mut [u8; ROOM]) -> usize
     ensures { λ r. ⌜ Stands (now (out .entry)) 0 (Says.answered channels (now (block .entry))) r (now (out .exit)) ⌝ }
 {
     let n = block.len();
-    let mut new = [0u8; 4096];
+    let mut new = no_bytes();
     let repacked = repack_adpcm_ima_ms(channels, block, &mut new[..n]);
     if repacked.refusal != 0 {
         return refused(repacked.refusal, out);
@@ -65,15 +66,24 @@ fn told(channels: u8, block: &[u8], out: &mut [u8; ROOM]) -> usize
 
 // What became of the samples of a block that was repacked.
 fn changed(channels: u8, old: &[u8], new: &[u8], out: &mut [u8; ROOM]) -> usize
-    requires { ⌜ (length (now old) ≤ 4096) × (repackRefusal channels (length (now old)) (length (now new)) ≡ 0) ⌝ }
+    requires { ⌜ Small channels (now old) × (length (now new) ≡ length (now old)) ⌝ }
     ensures { λ r. ⌜ Stands (now (out .entry)) 0 (Says.changed (Says.lossOf channels (now (old .entry)) (now (new .entry)))) r (now (out .exit)) ⌝ }
 {
     let m = samples(channels, old.len());
-    let mut before = [0i16; 8185];
-    let mut after = [0i16; 8185];
-    decode_adpcm_ima_ms(channels, old, &mut before[..m]);
-    decode_adpcm_ima_ms(channels, new, &mut after[..m]);
+    let before = decoded(channels, old);
+    let after = decoded(channels, new);
     line(loss_report(&before[..m], &after[..m]), out)
+}
+
+// The samples of a block, at the start of an array.
+fn decoded(channels: u8, block: &[u8]) -> [i16; 8185]
+    requires { ⌜ Small channels (now block) ⌝ }
+    ensures { λ r. ⌜ (length r ≡ 8185) × (take (samplesOf channels (length (now (block .entry)))) r ≡ decodedBlock channels (now (block .entry))) ⌝ }
+{
+    let m = samples(channels, block.len());
+    let mut out = no_samples();
+    decode_adpcm_ima_ms(channels, block, &mut out[..m]);
+    out
 }
 
 // `changed C first F peak P`
@@ -92,10 +102,23 @@ fn line(loss: Loss, out: &mut [u8; ROOM]) -> usize
 
 // A place, or `-` for none.
 fn put_place(out: &mut [u8; ROOM], at: usize, first: First) -> usize
-    ensures { λ r. ⌜ (r ≡ Text.placeAfter (now (out .entry)) at (Says.place (placeOf first))) × (now (out .exit) ≡ Text.putIn (now (out .entry)) at (Says.place (placeOf first))) ⌝ }
+    ensures { λ r. ⌜ (r ≡ Text.placeAfter (now (out .entry)) at (Says.place (placeOf first))) × (now (out .exit) ≡ Text.putIn (now (out .entry)) at (Says.place (placeOf first))) × (length (Says.place (placeOf first)) ≤ 10) ⌝ }
 {
     match first {
         First::At(k) => put_decimal(out, at, k),
         First::Nowhere => put(out, at, b"-"),
     }
+}
+
+// The arrays that a block and its samples sit in. What is not written there is never read, so that their lengths are all that counts.
+fn no_bytes() -> [u8; 4096]
+    ensures { λ r. ⌜ length r ≡ 4096 ⌝ }
+{
+    [0; 4096]
+}
+
+fn no_samples() -> [i16; 8185]
+    ensures { λ r. ⌜ length r ≡ 8185 ⌝ }
+{
+    [0; 8185]
 }

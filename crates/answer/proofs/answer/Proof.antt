@@ -23,6 +23,7 @@ answer-spec =
     (tie.spec
     (λ c κs. search needs)
     (λ c κs. search needs)
+    (λ c κs. search needs)
     returns
     array-share-prefix-block
     slice-aggregate-told

@@ -30,6 +30,7 @@ pub told-spec : {M : Type 1} → statement M
 told-spec =
     tie.close
     (tie.spec
+    (λ c κs. search needs)
     (λ c. search needs)
     slice-aggregate-repack-adpcm-ima-ms
     (λ c κs. search needs)
