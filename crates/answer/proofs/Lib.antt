@@ -1,1 +1,3 @@
+pub mod Asked
+pub mod Made
 pub mod Small

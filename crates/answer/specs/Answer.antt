@@ -1,6 +1,6 @@
 -- What the program `repack` prints. Assumes nothing.
 use mathlib.Core.Path.{_≡_}
-use mathlib.Core.Bool.{cond}
+use mathlib.Core.Bool.{Bool, cond}
 use mathlib.Core.List.{List, _++_}
 use mathlib.Core.Option.{Option, none, some}
 use Prim.Native.Nat.{ℕ, _+_, _≤_}
@@ -33,11 +33,14 @@ changed r = line (ascii "changed " ++ decimal (r .count) ++ ascii " first " ++ p
 abbrev pub lossOf : ℕ → List ℕ → List ℕ → Reported
 lossOf c old new = lossReport (decodedBlock c old) (decodedBlock c new)
 
+abbrev pub said : Bool → Reported → List ℕ
+said differs r = cond differs (changed r) same
+
 -- After `same` or `changed` comes a line of the new block in upper-case hex.
 unfoldable pub told : ℕ → List ℕ → List ℕ
 told c block =
     let new = repacked c block in
-    line (cond (differ block new) (changed (lossOf c block new)) same ++ hex new)
+    line (said (differ block new) (lossOf c block new) ++ hex new)
 
 -- 4 is tested first, then 1 and 2.
 unfoldable pub answered : ℕ → List ℕ → List ℕ

@@ -55,19 +55,27 @@ fn told(channels: u8, block: &[u8], out: &mut [u8; ROOM]) -> usize
     if repacked.refusal != 0 {
         return refused(repacked.refusal, out);
     }
-    let line = if repacked.changed {
-        changed(channels, block, &new[..n], out)
-    } else {
-        put(out, 0, b"same\n")
-    };
+    let line = said(channels, repacked.changed, block, &new[..n], out);
     let end = put_hex(out, line, &new[..n]);
     put(out, end, b"\n")
+}
+
+// The first line: `same`, or what changed.
+fn said(channels: u8, differs: bool, old: &[u8], new: &[u8], out: &mut [u8; ROOM]) -> usize
+    requires { ⌜ Small channels (now old) × (length (now new) ≡ length (now old)) ⌝ }
+    ensures { λ r. ⌜ Stands (now (out .entry)) 0 (Says.said differs (Says.lossOf channels (now (old .entry)) (now (new .entry)))) r (now (out .exit)) × (r ≤ 52) ⌝ }
+{
+    if differs {
+        changed(channels, old, new, out)
+    } else {
+        put(out, 0, b"same\n")
+    }
 }
 
 // What became of the samples of a block that was repacked.
 fn changed(channels: u8, old: &[u8], new: &[u8], out: &mut [u8; ROOM]) -> usize
     requires { ⌜ Small channels (now old) × (length (now new) ≡ length (now old)) ⌝ }
-    ensures { λ r. ⌜ Stands (now (out .entry)) 0 (Says.changed (Says.lossOf channels (now (old .entry)) (now (new .entry)))) r (now (out .exit)) ⌝ }
+    ensures { λ r. ⌜ Stands (now (out .entry)) 0 (Says.changed (Says.lossOf channels (now (old .entry)) (now (new .entry)))) r (now (out .exit)) × (r ≤ 52) ⌝ }
 {
     let m = samples(channels, old.len());
     let before = decoded(channels, old);
@@ -88,7 +96,7 @@ fn decoded(channels: u8, block: &[u8]) -> [i16; 8185]
 
 // `changed C first F peak P`
 fn line(loss: Loss, out: &mut [u8; ROOM]) -> usize
-    ensures { λ r. ⌜ Stands (now (out .entry)) 0 (Says.changed (reported (loss .refusal) (loss .count) (placeOf (loss .first)) (loss .peak))) r (now (out .exit)) ⌝ }
+    ensures { λ r. ⌜ Stands (now (out .entry)) 0 (Says.changed (reported (loss .refusal) (loss .count) (placeOf (loss .first)) (loss .peak))) r (now (out .exit)) × (r ≤ 52) ⌝ }
 {
     let word = put(out, 0, b"changed ");
     let count = put_decimal(out, word, loss.count);

@@ -45,7 +45,7 @@ returns c =
     let m = c .before .before .before .before .before .before .before .samples .result in
     let olds = ap (λ (k : ℕ). take k (c .before .before .before .before .before .before .decoded .result)) n ∙ c .before .before .before .before .before .before .decoded .ensures .1 in
     let news = ap (λ (k : ℕ). take k (c .before .before .before .before .before .decoded2 .result)) (n ∙ ap (samplesOf (a .channels)) (sym (s .pre .1))) ∙ c .before .before .before .before .before .decoded2 .ensures .1 in
-    subst (λ (r : Reported). Stands (a .out .now) 0 (changed r) (c .line .result) (c .line .last .1 .0)) (c .before .before .loss-report .ensures ∙ ap₂ lossReport olds news) (c .line .ensures)
+    (subst (λ (r : Reported). Stands (a .out .now) 0 (changed r) (c .line .result) (c .line .last .1 .0)) (c .before .before .loss-report .ensures ∙ ap₂ lossReport olds news) (c .line .ensures .0), c .line .ensures .1)
 
 pub changed-spec : {M : Type 1} → statement M
 changed-spec =

@@ -39,7 +39,8 @@ returns c =
     let s₄ = stands-more out 0 t₃ (place (placeOf (l .first))) (c .before .before .before .before .before .before .before .before .before .before .before .put2 .result) (c .before .before .before .before .before .before .before .before .before .put-place .result) (c .before .before .before .before .before .before .before .before .before .before .before .put2 .last .0) (c .before .before .before .before .before .before .before .before .before .put-place .last .0) (omega (arith, room, few₁, l₂, l₃, few₂, l₄)) s₃ (c .before .before .before .before .before .before .before .before .before .put-place .ensures .0) (c .before .before .before .before .before .before .before .before .before .put-place .ensures .1) in
     let s₅ = stands-more out 0 t₄ (ascii " peak ") (c .before .before .before .before .before .before .before .before .before .put-place .result) (c .before .before .before .before .before .before .put3 .result) (c .before .before .before .before .before .before .before .before .before .put-place .last .0) (c .before .before .before .before .before .before .put3 .last .0) (omega (arith, room, few₁, l₂, l₃, few₂, l₄, l₅)) s₄ (c .before .before .before .before .before .before .put3 .ensures .0) (c .before .before .before .before .before .before .put3 .ensures .1) in
     let s₆ = stands-more out 0 t₅ (decimal (l .peak)) (c .before .before .before .before .before .before .put3 .result) (c .before .before .before .put-decimal2 .result) (c .before .before .before .before .before .before .put3 .last .0) (c .before .before .before .put-decimal2 .last .0) (omega (arith, room, few₁, l₂, l₃, few₂, l₄, l₅, few₃, l₆)) s₅ (c .before .before .before .put-decimal2 .ensures .0) (c .before .before .before .put-decimal2 .ensures .1) in
-    stands-more out 0 t₆ (ascii "\n") (c .before .before .before .put-decimal2 .result) (c .put4 .result) (c .before .before .before .put-decimal2 .last .0) (c .put4 .last .0) (omega (arith, room, few₁, l₂, l₃, few₂, l₄, l₅, few₃, l₆, l₇)) s₆ (c .put4 .ensures .0) (c .put4 .ensures .1)
+    let s₇ = stands-more out 0 t₆ (ascii "\n") (c .before .before .before .put-decimal2 .result) (c .put4 .result) (c .before .before .before .put-decimal2 .last .0) (c .put4 .last .0) (omega (arith, room, few₁, l₂, l₃, few₂, l₄, l₅, few₃, l₆, l₇)) s₆ (c .put4 .ensures .0) (c .put4 .ensures .1) in
+    (s₇, omega (arith, s₇ .0, few₁, few₂, few₃, l₂, l₃, l₄, l₅, l₆, l₇))
 
 pub line-spec : {M : Type 1} → statement M
 line-spec =

@@ -1,0 +1,73 @@
+-- A block repacked into the first places of an array: what was refused, and what stands in the array otherwise. Assumes nothing.
+use mathlib.Core.Path.{_≡_, refl, sym, ap, _∙_}
+use mathlib.Core.Bool.{Bool, cond}
+use mathlib.Core.List.{List, _++_}
+use Prim.Native.Nat.{ℕ, _+_, _≤_}
+use native.Mathlib.Omega.{arith}
+use lib.Dec.{eqb}
+use lib.ListN.{length, take, drop, length-append, length-drop}
+use lib.Seq.{take-at, length-take-le}
+use borrow.Author.Tests.{eq-eqb, ne-eqb, eqb-true}
+use borrow.Table.Steps.{cases}
+use Rattle.ms_layout.proofs.Sizes.{shape}
+use Rattle.ms_layout.specs.Sizes.{samplesOf}
+use Rattle.repacking.specs.Repack.{repacked, differ, answered, repackRefusal, repackBlock}
+use Rattle.repacking.proofs.Settled.{repacked-length}
+use Rattle.repacking.proofs.Theorems.{allowed}
+use Rattle.text.specs.Text.{hex, line}
+use Rattle.answer.specs.Answer as Says
+use Rattle.answer.specs.Answer.{Stands, Small, said, lossOf}
+
+-- the number that repacking answers
+refusal-is : (c : ℕ) (block out : List ℕ) → repackBlock c block out .refusal ≡ repackRefusal c (length block) (length out)
+unfolding repackBlock
+refusal-is c block out =
+    let number = repackRefusal c (length block) (length out) in
+    cases (eqb number 0) (λ t. rw t (sym (eqb-true number 0 t))) (λ t. rw t refl)
+
+module _ (c : ℕ) (block out xs : List ℕ) (k : ℕ) (differs : Bool) (few : length block ≤ 4096) (size : length out ≡ 4096)
+    (e : answered k differs xs ≡ repackBlock c block (take (length block) out)) where
+  pub long : length (take (length block) out) ≡ length block
+  long = length-take-le (length block) out (omega (arith, few, size))
+
+  number : k ≡ repackRefusal c (length block) (length block)
+  number = ap (λ r. r .refusal) e ∙ refusal-is c block (take (length block) out) ∙ ap (repackRefusal c (length block)) long
+
+  pub refuses : (k ≡ 0 → ⊥) → Says.answered c block ≡ Says.refused k
+  unfolding Says.answered
+  refuses h =
+      let other : repackRefusal c (length block) (length block) ≡ 0 → ⊥ = λ z. h (number ∙ z) in
+      rw (ne-eqb (repackRefusal c (length block) (length block)) 0 other, ← number) refl
+
+  module _ (done : k ≡ 0) where
+    taken : repackRefusal c (length block) (length block) ≡ 0
+    taken = sym number ∙ done
+
+    pub small : Small c block
+    small = (allowed c (length block) (length block) taken .0, few)
+
+    result : answered k differs xs ≡ answered 0 (differ block (repacked c block)) (repacked c block)
+    unfolding repackBlock
+    result = e ∙ rw (long, taken) refl
+
+    made : length xs ≡ length block
+    made = ap (λ r. length (r .buffer)) result ∙ repacked-length block (shape c (length block) (samplesOf c (length block)) (small .0))
+
+    pub made-size : length (xs ++ drop (length block) out) ≡ 4096
+    made-size = length-append xs (drop (length block) out) ∙ omega (arith, made, few, size, length-drop (length block) out)
+
+    pub made-is : take (length block) (xs ++ drop (length block) out) ≡ repacked c block
+    made-is = take-at xs (drop (length block) out) (length block) made ∙ ap (λ r. r .buffer) result
+
+    -- what is printed then
+    pub says : Says.answered c block ≡ line (said differs (lossOf c block (repacked c block)) ++ hex (repacked c block))
+    unfolding Says.answered Says.told
+    says = rw (taken, ← (ap (λ r. r .changed) result)) refl
+
+-- A buffer as long as it was before a short text was put into it.
+pub as-long : (out text buffer : List ℕ) (place : ℕ) → Stands out 0 text place buffer → place ≤ 52 → length buffer ≡ 8245 → length out ≡ 8245
+as-long out text buffer place (place-is, buffer-is) few size =
+    let parts = length-append text (drop (0 + length text) out) in
+    let rest = length-drop (0 + length text) out in
+    let whole : length buffer ≡ length (text ++ drop (0 + length text) out) = ap length buffer-is in
+    omega (arith, place-is, few, size, parts, rest, whole)
