@@ -1,0 +1,77 @@
+// The lengths that the MS calls take: n bytes, or m samples, and beside them a buffer of the length that fits.
+use adpcm_ima::AdpcmImaState;
+use ms::decode_adpcm_ima_ms;
+use ms::encode_adpcm_ima_ms;
+use ms_layout::MOST;
+use num::monus;
+use say::number;
+use say::text;
+ghost use Prim.Native.Nat.{_≤_};
+ghost use lib.ListN.{length};
+
+pub(crate) fn show() {
+    decoded(1, 3);
+    decoded(1, 4);
+    decoded(2, 8);
+    decoded(2, 12);
+    decoded(1, 65536);
+    decoded(2, 65536);
+    encoded(1, 0);
+    encoded(2, 0);
+    encoded(2, 2);
+    encoded(2, 18);
+    encoded(2, 10);
+}
+
+fn decoded(channels: u8, n: usize)
+    requires { ⌜ n ≤ 65536 ⌝ }
+{
+    let block = [0u8; 65536];
+    let mut samples = [0i16; 131072];
+    let m = monus(2 * n, 7 * channels as usize);
+    asked(b"decode ", channels, n);
+    answered(b" bytes", decode(channels, &block, n, &mut samples, m));
+}
+
+fn encoded(channels: u8, m: usize)
+    requires { ⌜ (channels ≤ 2) × (m ≤ 18) ⌝ }
+{
+    let samples = [0i16; 18];
+    let mut block = [0u8; 16];
+    let n = (m + 7 * channels as usize) / 2;
+    asked(b"encode ", channels, m);
+    answered(b" samples", encode(channels, &samples, m, &mut block, n));
+}
+
+fn decode(channels: u8, block: &[u8], n: usize, samples: &mut [i16], m: usize) -> u8
+    requires { ⌜ (n ≤ length (now block)) × (m ≤ length (now samples)) ⌝ }
+{
+    decode_adpcm_ima_ms(channels, &block[0..n], &mut samples[0..m])
+}
+
+fn encode(channels: u8, samples: &[i16], m: usize, block: &mut [u8], n: usize) -> u8
+    requires { ⌜ (m ≤ length (now samples)) × (n ≤ length (now block)) ⌝ }
+{
+    let states = [AdpcmImaState::new(); MOST];
+    let answer = encode_adpcm_ima_ms(channels, &samples[0..m], states, &mut block[0..n]);
+    answer.refusal
+}
+
+fn asked(call: &[u8], channels: u8, length: usize) {
+    text(call);
+    if channels == 1 {
+        number(b"mono, ", length as u64);
+    } else {
+        number(b"stereo, ", length as u64);
+    }
+}
+
+fn answered(unit: &[u8], refusal: u8) {
+    text(unit);
+    if refusal == 0 {
+        text(b" taken\n");
+    } else {
+        number(b" refused by ", refusal as u64);
+        text(b"\n");
+    }
+}

@@ -1,0 +1,25 @@
+// A mono MS block of five bytes.
+use ms::decode_adpcm_ima_ms;
+use say::byte;
+use say::signed;
+use say::text;
+
+pub(crate) fn show() {
+    let block = [0u8, 0, 0, 0, 0x17];
+    let mut samples = [1i16; 3];
+    decode_adpcm_ima_ms(1, &block, &mut samples);
+    bytes(b"mono", &block);
+    signed(b" decodes to ", samples[0]);
+    signed(b", ", samples[1]);
+    signed(b", ", samples[2]);
+    text(b"\n");
+}
+
+fn bytes(front: &[u8], block: &[u8]) {
+    text(front);
+    let mut k = 0;
+    while k < block.len() {
+        byte(b" ", block[k]);
+        k += 1;
+    }
+}

@@ -1,0 +1,28 @@
+// What the programs print on standard output: texts, and numbers with a text in front. Nothing comes back, and no contract can say
+// what is written.
+use libc::STDOUT_FILENO;
+
+pub fn text(text: &[u8]) {
+    io::write_all(STDOUT_FILENO, text);
+}
+
+pub fn number(front: &[u8], n: u64) {
+    text(front);
+    io::print_decimal(STDOUT_FILENO, n);
+}
+
+pub fn signed(front: &[u8], x: i16) {
+    let size = num::complemented(x) as u64;
+    text(front);
+    if x < 0 {
+        number(b"-", size + 1);
+    } else {
+        number(b"", size);
+    }
+}
+
+// In two hexadecimal digits.
+pub fn byte(front: &[u8], b: u8) {
+    text(front);
+    io::print_hex(STDOUT_FILENO, b as u64, 2);
+}
