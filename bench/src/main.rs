@@ -1,6 +1,6 @@
 //! Times each call of the proved library and the oracle's, and prints Markdown tables: of the calls for
-//! one value, of those for a run of ima4 blocks, and of those for an MS block. What it is doing goes to
-//! standard error, so that standard output can go to a file.
+//! one value, of those for a run of ima4 blocks, of those for an MS block, and of the loss report. What it
+//! is doing goes to standard error, so that standard output can go to a file.
 
 mod adpcm_ima;
 #[path = "../../tests/differential/src/blocks.rs"]
@@ -9,11 +9,14 @@ mod blocks;
 mod ffi;
 mod g711;
 mod ima4;
+mod loss;
 mod ms;
 #[path = "../../tests/differential/src/ms/block.rs"]
 mod ms_block;
 #[path = "../../tests/differential/src/nibble.rs"]
 mod nibble;
+#[path = "../../tests/differential/src/loss/plain.rs"]
+mod plain;
 mod rounds;
 #[path = "../../tests/differential/src/signal.rs"]
 mod signal;
@@ -59,12 +62,15 @@ fn values() {
 }
 
 fn blocks() {
-    let (ima4, ms) = (ima4::contents(), ms::contents());
+    let (ima4, ms, loss) = (ima4::contents(), ms::contents(), loss::contents());
     let mut rows = ima4::rows(&ima4);
     let of_ima4 = rows.len();
     rows.extend(ms::rows(&ms));
-    eprintln!("timing runs of ima4, and MS blocks ..");
+    let of_blocks = rows.len();
+    rows.extend(loss::rows(&loss));
+    eprintln!("timing runs of ima4, MS blocks, and the loss report ..");
     rounds::time(&mut rows);
+    let (rows, of_loss) = rows.split_at(of_blocks);
     let (of_ima4, of_ms) = rows.split_at(of_ima4);
 
     println!(
@@ -81,6 +87,13 @@ fn blocks() {
         ms::BLOCKS / 2
     );
     table("channels", of_ms);
+    println!();
+    println!(
+        "Nanoseconds a pair of samples, the best of {} runs over {} pairs.",
+        rounds::RUNS,
+        loss::SAMPLES
+    );
+    table("pairs a call", of_loss);
 }
 
 fn table(number: &str, rows: &[Row]) {

@@ -53,6 +53,7 @@ fn lengths(channels: u8) -> (usize, usize) {
 pub fn rows(contents: &[Content]) -> Vec<Row<'_>> {
     let mut rows: Vec<Row> = contents.iter().map(decode).collect();
     rows.extend(contents.iter().map(encode));
+    rows.extend(contents.iter().map(repack));
     rows
 }
 
@@ -81,4 +82,22 @@ fn encode(content: &Content) -> Row<'_> {
         move |samples, states: &mut States, block| oracle::encode(channels, samples, states, block),
     );
     Row::new("encode_ms", content.name, channels.into(), round)
+}
+
+/// Of blocks that the encoder wrote, which do not change. The Rust has no such call: it decodes the block
+/// and encodes the samples, with room for these at hand.
+fn repack(content: &Content) -> Row<'_> {
+    type State = (u8, Vec<i16>);
+    let channels = content.channels;
+    let (bytes, _) = lengths(channels);
+    let round = round(
+        content.samples.len(),
+        (&content.bytes, bytes),
+        bytes,
+        move |block, (changed, _): &mut State, new| ours::repack(channels, block, changed, new),
+        move |block, (changed, samples): &mut State, new| {
+            oracle::repack(samples, channels, block, changed, new)
+        },
+    );
+    Row::new("repack_ms", content.name, channels.into(), round)
 }

@@ -18,7 +18,7 @@ pub const RUNS: usize = 201;
 pub struct Row<'a> {
     pub call: &'static str,
     pub content: &'static str,
-    /// Of blocks in a call, or of channels in a block.
+    /// Of blocks in a call, of channels in a block, or of samples in a call.
     pub number: usize,
     pub ours: f64,
     pub rust: f64,

@@ -40,6 +40,23 @@ mod c {
             block: *mut u8,
             block_len: usize,
         ) -> u8;
+        pub fn spr_repack_ms(
+            channels: u8,
+            block: *const u8,
+            block_len: usize,
+            repacked: *mut u8,
+            repacked_len: usize,
+            changed: *mut u8,
+        ) -> u8;
+        pub fn spr_loss(
+            before: *const i16,
+            before_len: usize,
+            after: *const i16,
+            after_len: usize,
+            count: *mut u32,
+            first: *mut u32,
+            peak: *mut u16,
+        ) -> u8;
     }
 }
 
@@ -131,4 +148,21 @@ pub fn encode_ms(
             channels, samples, len, predictors, indices, block, block_len,
         )
     }
+}
+
+#[inline(always)]
+pub fn repack_ms(channels: u8, block: &[u8], changed: &mut u8, repacked: &mut [u8]) -> u8 {
+    let (len, repacked_len) = (block.len(), repacked.len());
+    let (block, repacked) = (block.as_ptr(), repacked.as_mut_ptr());
+    unsafe { c::spr_repack_ms(channels, block, len, repacked, repacked_len, changed) }
+}
+
+// SAFETY of the loss report: as of ima4. The report is three numbers of the caller's, borrowed for the
+// call by nobody else.
+
+#[inline(always)]
+pub fn loss(before: &[i16], after: &[i16], count: &mut u32, first: &mut u32, peak: &mut u16) -> u8 {
+    let (len, after_len) = (before.len(), after.len());
+    let (before, after) = (before.as_ptr(), after.as_ptr());
+    unsafe { c::spr_loss(before, len, after, after_len, count, first, peak) }
 }

@@ -16,6 +16,7 @@ mod headers;
 mod ima4;
 mod ledger;
 mod lengths;
+mod loss;
 mod ms;
 mod nibble;
 mod outcome;
@@ -23,6 +24,7 @@ mod packed;
 mod parallel;
 mod places;
 mod progress;
+mod repack;
 mod report;
 mod runs;
 mod signal;
@@ -49,6 +51,8 @@ fn main() -> ExitCode {
     reports.extend(adpcm_ima::reports(chunks.is_some()));
     reports.extend(ima4::reports(chunks.is_some()));
     reports.extend(ms::reports(chunks.is_some()));
+    reports.extend(repack::reports(chunks.is_some()));
+    reports.extend(loss::reports(chunks.is_some()));
     reports.extend(chunks.map(exhaustive::encode));
     verdict(&reports)
 }

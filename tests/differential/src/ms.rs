@@ -2,11 +2,11 @@
 //! gone over one by one: the headers and the states, what the samples are like, the channel number, and
 //! the buffers' lengths. What the scope names by number is held at the end.
 
-mod block;
+pub mod block;
 mod both;
-mod contents;
-mod headers;
-mod lengths;
+pub mod contents;
+pub mod headers;
+pub mod lengths;
 mod numbers;
 
 use crate::report::Report;

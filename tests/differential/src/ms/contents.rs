@@ -1,9 +1,10 @@
 //! MS blocks of every length that is taken, of several contents, from several states. What the oracle
 //! encoded is decoded, and so is what nobody encoded.
 
+use super::block::oracle::fitting;
 use super::block::{interleaved, ours, States};
 use super::both;
-use super::lengths::{fitting, taken};
+use super::lengths::taken;
 use crate::outcome::Outcome;
 use crate::parallel::each;
 use crate::report::Report;
@@ -55,10 +56,10 @@ fn first(report: &Report, name: Name, channels: u8, samples: &[i16], states: Sta
 }
 
 /// What is on the left, and what is on the right. One channel has a left alone.
-type Name = (&'static str, &'static str);
+pub type Name = (&'static str, &'static str);
 
 /// For one channel each content, for two each on the left with each on the right.
-fn contents(channels: u8, seed: u64, len: usize) -> Vec<(Name, Vec<i16>)> {
+pub fn contents(channels: u8, seed: u64, len: usize) -> Vec<(Name, Vec<i16>)> {
     let frames = len / usize::from(channels);
     let lefts = runs::contents(seed, frames);
     if channels == 1 {

@@ -55,12 +55,12 @@ fn encode_all<const SAMPLES: usize, const BYTES: usize>(
     report.compare::<_, (u8, States, [u8; BYTES])>(inputs, ours, oracle);
 }
 
-fn mono(index: u8) -> impl Iterator<Item = [State; 1]> {
+pub fn mono(index: u8) -> impl Iterator<Item = [State; 1]> {
     (i16::MIN..=i16::MAX).map(move |predictor| [(predictor, index)])
 }
 
 /// An odd factor leads to every predictor, over all pairs of indices.
-fn stereo(left: u8) -> impl Iterator<Item = [State; 2]> {
+pub fn stereo(left: u8) -> impl Iterator<Item = [State; 2]> {
     (0..=u8::MAX).map(move |right| {
         let pair = u16::from_be_bytes([left, right]);
         let predictor = |factor| pair.wrapping_mul(factor) as i16;
@@ -69,7 +69,7 @@ fn stereo(left: u8) -> impl Iterator<Item = [State; 2]> {
 }
 
 /// A block with these headers. The fourth byte of each, which is not read, takes all values.
-fn block<const BYTES: usize>(headers: &[State], pool: &[u8]) -> [u8; BYTES] {
+pub fn block<const BYTES: usize>(headers: &[State], pool: &[u8]) -> [u8; BYTES] {
     let turn = turn(headers);
     let mut block = [0; BYTES];
     let (head, body) = block.split_at_mut(4 * headers.len());

@@ -1,7 +1,8 @@
 //! MS blocks of many lengths, with as many samples as fit and with others, for channel numbers that are
 //! taken and for some that are not. What a refused call was lent is left as it was.
 
-use super::block::{oracle, States};
+use super::block::oracle::{self, fitting};
+use super::block::States;
 use super::both;
 use crate::parallel::each;
 use crate::report::Report;
@@ -50,7 +51,7 @@ pub fn taken() -> Vec<(u8, usize)> {
 }
 
 /// All short lengths, and those about some that are in use and about the longest.
-fn blocks() -> BTreeSet<usize> {
+pub fn blocks() -> BTreeSet<usize> {
     let some = [1_024, 2_048, 65_528, 65_535, 65_536].into_iter();
     let about = some.flat_map(|block| block - 9..=block + 9);
     (0..=300).chain(about).collect()
@@ -64,9 +65,4 @@ fn samples(block: usize) -> BTreeSet<usize> {
     let fitting = blocks.flat_map(|block| [1, 2].map(|channels| fitting(channels, block)));
     let about = |len: usize| (len.saturating_sub(2)..=len + 2).chain([2 * len, len + 65_536]);
     short.chain(fitting.flat_map(about)).collect()
-}
-
-/// For one channel 2n-7 samples, for two 2n-14. A block that is too short for that has none.
-pub fn fitting(channels: u8, block: usize) -> usize {
-    (2 * block).saturating_sub(7 * usize::from(channels))
 }

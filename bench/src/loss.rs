@@ -1,0 +1,75 @@
+//! The loss report of samples and what MS blocks make of them. Ours is a true call. The Rust has none: there
+//! it is a plain loop, inlined.
+
+use crate::ffi;
+use crate::ms_block::oracle::{decode, encode};
+use crate::plain::{loss, Loss};
+use crate::rounds::{round, Row};
+use crate::signal::{noise, speech};
+
+/// Of a block of one channel and 1,024 bytes.
+const BLOCK: usize = 2041;
+/// So many samples are timed together, before and after: those of 64 blocks, which one call takes.
+pub const SAMPLES: usize = 64 * BLOCK;
+
+pub struct Content {
+    name: &'static str,
+    /// Samples a call.
+    len: usize,
+    /// A run and what became of it, then the next run.
+    pairs: Vec<i16>,
+}
+
+/// Nearly all samples of speech and of noise differ from what became of them; equal ones do not.
+pub fn contents() -> Vec<Content> {
+    let (speech, noise) = (speech(1, SAMPLES), noise(1, SAMPLES));
+    let mut contents = Vec::new();
+    for len in [BLOCK, SAMPLES] {
+        contents.push(content("speech", len, &speech, &coded(&speech)));
+        contents.push(content("noise", len, &noise, &coded(&noise)));
+        contents.push(content("equal", len, &speech, &speech));
+    }
+    contents
+}
+
+fn content(name: &'static str, len: usize, before: &[i16], after: &[i16]) -> Content {
+    let runs = before.chunks(len).zip(after.chunks(len));
+    let pairs = runs.flat_map(|(before, after)| [before, after].concat());
+    let pairs = pairs.collect();
+    Content { name, len, pairs }
+}
+
+fn coded(samples: &[i16]) -> Vec<i16> {
+    let mut after = samples.to_vec();
+    let mut states = [(0, 0); 2];
+    for run in after.chunks_exact_mut(BLOCK) {
+        let mut block = [0; 1024];
+        encode(1, run, &mut states, &mut block);
+        decode(1, &block, run);
+    }
+    after
+}
+
+pub fn rows(contents: &[Content]) -> Vec<Row<'_>> {
+    contents.iter().map(row).collect()
+}
+
+fn row(content: &Content) -> Row<'_> {
+    let len = content.len;
+    let round = round(
+        SAMPLES,
+        (&content.pairs, 2 * len),
+        // a buffer that nobody writes to: there is nothing but the report
+        1,
+        move |pair, (count, first, peak): &mut Loss, _: &mut [u8]| {
+            let (before, after) = pair.split_at(len);
+            ffi::loss(before, after, count, first, peak)
+        },
+        move |pair, report: &mut Loss, _: &mut [u8]| {
+            let (before, after) = pair.split_at(len);
+            *report = loss(before, after);
+            0
+        },
+    );
+    Row::new("loss", content.name, len, round)
+}

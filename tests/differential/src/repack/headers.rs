@@ -1,0 +1,46 @@
+//! Short blocks, with all that a header can say: for one channel every predictor with every index, for
+//! two every index on the left with every index on the right. The fourth byte is 0 in some, and takes
+//! all values in others.
+
+use super::both::compare_all;
+use crate::headers::bodies;
+use crate::ms::headers::{block, mono, stereo};
+use crate::parallel::each;
+use crate::report::Report;
+
+/// Compared are both numbers and all bytes.
+pub fn report(progress: bool) -> Report {
+    let report = Report::start(progress, "repack_ms headers");
+    let pool = bodies();
+    each(0..=u8::MAX, |index| {
+        compare_all::<4>(&report, 1, mono(index).map(|head| block(&head, &pool)));
+        compare_all::<4>(&report, 1, fourths(index));
+        let blocks = mono(index).map(|head| plain(block(&head, &pool)));
+        compare_all::<8>(&report, 1, blocks);
+        compare_all::<8>(&report, 2, stereo(index).map(|head| block(&head, &pool)));
+        let blocks = stereo(index).map(|head| block(&head, &pool));
+        compare_all::<24>(&report, 2, blocks);
+        let blocks = stereo(index).map(|head| plain(block(&head, &pool)));
+        compare_all::<24>(&report, 2, blocks);
+    });
+    report
+}
+
+/// Some predictors, each with all values of the fourth byte.
+fn fourths(index: u8) -> impl Iterator<Item = [u8; 4]> {
+    let predictors = [i16::MIN, -12345, -1, 0, 1, 12345, i16::MAX].into_iter();
+    predictors.flat_map(move |predictor| {
+        let [low, high] = predictor.to_le_bytes();
+        (0..=u8::MAX).map(move |fourth| [low, high, index, fourth])
+    })
+}
+
+/// With a fourth byte of 0, so that no byte of the header need change. Of a block of one channel the
+/// second place is in its body, and stays.
+fn plain<const BYTES: usize>(mut block: [u8; BYTES]) -> [u8; BYTES] {
+    block[3] = 0;
+    if BYTES > 8 {
+        block[7] = 0;
+    }
+    block
+}

@@ -1,0 +1,89 @@
+//! Long blocks, up to the largest that a record has room for, and some that are random.
+
+use super::Case;
+use crate::damage::record;
+use crate::oracle::{encode, fitting};
+use crate::signal::{noise, speech, Random};
+
+pub fn all() -> Vec<Case> {
+    [same(), one(), two()].into_iter().flatten().collect()
+}
+
+fn same() -> Vec<Case> {
+    let of = |name, channels, block: Vec<u8>| Case::new(name, record(channels, &block), "same");
+    vec![
+        of("same_mono_speech", 1, encoded(1, speech, 0, 256)),
+        of("same_mono_noise_4095", 1, encoded(1, noise, 88, 4_095)),
+        of("same_mono_largest", 1, encoded(1, speech, 0, 4_096)),
+        of("same_mono_largest_silence", 1, vec![0; 4_096]),
+        of("same_stereo_speech", 2, encoded(2, speech, 10, 2_048)),
+        of("same_stereo_largest", 2, encoded(2, noise, 44, 4_096)),
+    ]
+}
+
+/// One channel. The random blocks are those that gave a number worth printing.
+fn one() -> Vec<Case> {
+    let of = |name, block: Vec<u8>, loss| Case::new(name, record(1, &block), changed(loss));
+    let clipped = "changed 0 first - peak 0";
+    vec![
+        of("moved_first_100", late(50), [1, 100, 1]),
+        of("moved_first_1000", late(500), [1, 1_000, 1]),
+        of("moved_last_of_largest", late(4_092), [1, 8_184, 1]),
+        of("moved_count_10", random(286, 9), [10, 1, 2_910]),
+        of("moved_count_100", random(74, 67), [100, 2, 18_303]),
+        of("moved_count_1000", random(5, 733), [1_000, 2, 32_767]),
+        of("moved_4095", random(2, 4_095), [5_411, 1, 32_767]),
+        of("moved_largest", random(1, 4_096), [5_403, 2, 32_767]),
+        Case::new("bytes_largest_clipped", record(1, &[0x77; 4_096]), clipped),
+    ]
+}
+
+fn two() -> Vec<Case> {
+    let of = |name, block: Vec<u8>, loss| Case::new(name, record(2, &block), changed(loss));
+    vec![
+        of("moved_stereo_left_of_speech", highest(), [319, 114, 949]),
+        of("moved_stereo_4088", random(4, 4_088), [5_319, 6, 32_767]),
+        of("moved_stereo_largest", random(3, 4_096), [5_369, 9, 32_767]),
+        of("moved_stereo_last_of_largest", right(), [1, 8_177, 1]),
+    ]
+}
+
+fn changed([count, first, peak]: [u16; 3]) -> String {
+    format!("changed {count} first {first} peak {peak}")
+}
+
+/// One channel at 32,758, with a nibble at the end that clips.
+fn late(bytes: usize) -> Vec<u8> {
+    let mut block = vec![0; 4 + bytes];
+    block[..2].copy_from_slice(&[0xf6, 0x7f]);
+    block[3 + bytes] = 0x70;
+    block
+}
+
+/// The same on the right of the largest block, and silence on the left.
+fn right() -> Vec<u8> {
+    let mut block = vec![0; 4_096];
+    block[4..6].copy_from_slice(&[0xf6, 0x7f]);
+    block[4_095] = 0x70;
+    block
+}
+
+/// Speech, of which the left starts from the upper end of the scale.
+fn highest() -> Vec<u8> {
+    let mut block = encoded(2, speech, 60, 1_024);
+    block[..2].copy_from_slice(&[0xff, 0x7f]);
+    block
+}
+
+fn encoded(channels: u8, of: fn(u64, usize) -> Vec<i16>, index: u8, len: usize) -> Vec<u8> {
+    let samples = of(1, fitting(channels, len));
+    let mut block = vec![0; len];
+    let number = encode(channels, &samples, &mut [(0, index); 2], &mut block);
+    assert_eq!(number, 0, "a block of {len} bytes is taken");
+    block
+}
+
+fn random(seed: u64, len: usize) -> Vec<u8> {
+    let bytes = Random::new(seed).map(|number| (number >> 24) as u8);
+    bytes.take(len).collect()
+}
