@@ -1,13 +1,12 @@
 // Two ima4 blocks that were encoded as one run and are decoded apart. The second one's header has no room
 // for the low seven bits of the predictor: a decoder that is given the state has them, one that starts
 // from a zeroed state has not, and its samples move.
+use crate::print::signed;
 use adpcm_ima::AdpcmImaState;
 use ima4::decode_adpcm_ima_ima4_run;
 use ima4::encode_adpcm_ima_ima4_run;
+use libc::STDOUT_FILENO;
 use num::lesser;
-use say::number;
-use say::signed;
-use say::text;
 ghost use mathlib.Core.Path.{_≡_};
 ghost use Prim.Native.Nat.{_<_, _≤_};
 ghost use lib.ListN.{length};
@@ -52,10 +51,11 @@ fn height(k: usize) -> i16
 
 // The first eight samples, and how many are not those of the run that was not cut.
 fn compared(name: &[u8], second: &[i16], samples: &[i16]) {
-    text(name);
+    io::write_all(STDOUT_FILENO, name);
     print_first(samples);
-    number(b" .., ", moved(second, samples) as u64);
-    text(b" of 64 moved\n");
+    io::write_all(STDOUT_FILENO, b" .., ");
+    io::print_decimal(STDOUT_FILENO, moved(second, samples) as u64);
+    io::write_all(STDOUT_FILENO, b" of 64 moved\n");
 }
 
 fn print_first(samples: &[i16]) {
@@ -63,7 +63,8 @@ fn print_first(samples: &[i16]) {
     let mut k = 0;
     while k < n {
         let x = samples[k];
-        signed(b" ", x);
+        io::write_all(STDOUT_FILENO, b" ");
+        signed(x);
         k += 1;
     }
 }

@@ -1,15 +1,18 @@
 // A sample by both laws.
-use say::byte;
-use say::signed;
-use say::text;
+use crate::print::signed;
+use libc::STDOUT_FILENO;
 
 pub(crate) fn show(sample: i16) {
     let mu = g711::encode_ulaw(sample);
     let a = g711::encode_alaw(sample);
-    signed(b"", sample);
-    byte(b": mu-law 0x", mu);
-    signed(b" is ", g711::decode_ulaw(mu));
-    byte(b", A-law 0x", a);
-    signed(b" is ", g711::decode_alaw(a));
-    text(b"\n");
+    signed(sample);
+    io::write_all(STDOUT_FILENO, b": mu-law 0x");
+    io::print_hex(STDOUT_FILENO, mu as u64, 2);
+    io::write_all(STDOUT_FILENO, b" is ");
+    signed(g711::decode_ulaw(mu));
+    io::write_all(STDOUT_FILENO, b", A-law 0x");
+    io::print_hex(STDOUT_FILENO, a as u64, 2);
+    io::write_all(STDOUT_FILENO, b" is ");
+    signed(g711::decode_alaw(a));
+    io::write_all(STDOUT_FILENO, b"\n");
 }

@@ -2,6 +2,7 @@
 // two ima4 blocks apart, and prints what the second decodes to with the first one's state and without.
 mod cut;
 mod laws;
+mod print;
 
 fn main() {
     laws::show(0);

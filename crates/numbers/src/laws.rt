@@ -1,10 +1,10 @@
 // The two laws. The last number is an easy slip: negated and not complemented, -4 would go to another code.
+use crate::say::byte;
+use crate::say::signed;
+use crate::say::text;
 use g711::decode_alaw;
 use g711::decode_ulaw;
 use g711::encode_ulaw;
-use say::byte;
-use say::signed;
-use say::text;
 
 pub(crate) fn show() {
     mu_decoded(0x7f);

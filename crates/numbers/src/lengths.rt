@@ -1,11 +1,11 @@
 // The lengths that the MS calls take: n bytes, or m samples, and beside them a buffer of the length that fits.
+use crate::say::number;
+use crate::say::text;
 use adpcm_ima::AdpcmImaState;
 use ms::decode_adpcm_ima_ms;
 use ms::encode_adpcm_ima_ms;
 use ms_layout::MOST;
 use num::monus;
-use say::number;
-use say::text;
 ghost use Prim.Native.Nat.{_≤_};
 ghost use lib.ListN.{length};
 

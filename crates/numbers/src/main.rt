@@ -4,6 +4,7 @@ mod laws;
 mod lengths;
 mod mono;
 mod nibbles;
+mod say;
 mod state;
 mod zeros;
 

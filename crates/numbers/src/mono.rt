@@ -1,8 +1,9 @@
 // A mono MS block of five bytes.
+use crate::say::byte;
+use crate::say::signed;
+use crate::say::text;
 use ms::decode_adpcm_ima_ms;
-use say::byte;
-use say::signed;
-use say::text;
+use repacking::repack_adpcm_ima_ms;
 
 pub(crate) fn show() {
     let block = [0u8, 0, 0, 0, 0x17];
@@ -12,7 +13,14 @@ pub(crate) fn show() {
     signed(b" decodes to ", samples[0]);
     signed(b", ", samples[1]);
     signed(b", ", samples[2]);
-    text(b"\n");
+    let mut out = [1u8; 5];
+    let repacked = repack_adpcm_ima_ms(1, &block, &mut out);
+    bytes(b" and repacks to", &out);
+    if repacked.changed {
+        text(b", changed\n");
+    } else {
+        text(b", the same\n");
+    }
 }
 
 fn bytes(front: &[u8], block: &[u8]) {

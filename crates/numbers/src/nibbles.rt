@@ -1,8 +1,8 @@
 // One nibble, decoded and encoded.
+use crate::say::number;
+use crate::say::signed;
+use crate::say::text;
 use crate::state;
-use say::number;
-use say::signed;
-use say::text;
 
 pub(crate) fn show() {
     decoded(0, 0, 7);

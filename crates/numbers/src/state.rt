@@ -1,8 +1,8 @@
 // A state: (predictor, index).
+use crate::say::number;
+use crate::say::signed;
+use crate::say::text;
 use adpcm_ima::AdpcmImaState;
-use say::number;
-use say::signed;
-use say::text;
 
 pub(crate) fn of(predictor: i16, index: u8) -> AdpcmImaState {
     AdpcmImaState::new().reloaded(predictor, index)

@@ -1,10 +1,10 @@
 // Ima4 blocks whose nibbles are all 0. The last two numbers are an easy slip: lowered before it is compared with the header's 88, an
 // index of 200 would keep its state, as 88 does.
+use crate::say::number;
+use crate::say::signed;
+use crate::say::text;
 use crate::state;
 use ima4::decode_adpcm_ima_ima4;
-use say::number;
-use say::signed;
-use say::text;
 
 pub(crate) fn show() {
     zero(100, 0);

@@ -1,17 +1,16 @@
-// What the programs print on standard output: texts, and numbers with a text in front. Nothing comes back, and no contract can say
-// what is written.
+// Texts, and numbers with a text in front.
 use libc::STDOUT_FILENO;
 
-pub fn text(text: &[u8]) {
+pub(crate) fn text(text: &[u8]) {
     io::write_all(STDOUT_FILENO, text);
 }
 
-pub fn number(front: &[u8], n: u64) {
+pub(crate) fn number(front: &[u8], n: u64) {
     text(front);
     io::print_decimal(STDOUT_FILENO, n);
 }
 
-pub fn signed(front: &[u8], x: i16) {
+pub(crate) fn signed(front: &[u8], x: i16) {
     let size = num::complemented(x) as u64;
     text(front);
     if x < 0 {
@@ -22,7 +21,7 @@ pub fn signed(front: &[u8], x: i16) {
 }
 
 // In two hexadecimal digits.
-pub fn byte(front: &[u8], b: u8) {
+pub(crate) fn byte(front: &[u8], b: u8) {
     text(front);
     io::print_hex(STDOUT_FILENO, b as u64, 2);
 }

@@ -1,0 +1,12 @@
+// Numbers in decimal.
+use libc::STDOUT_FILENO;
+
+pub(crate) fn signed(x: i16) {
+    let size = num::complemented(x) as u64;
+    if x < 0 {
+        io::write_all(STDOUT_FILENO, b"-");
+        io::print_decimal(STDOUT_FILENO, size + 1);
+    } else {
+        io::print_decimal(STDOUT_FILENO, size);
+    }
+}
