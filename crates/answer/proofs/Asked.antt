@@ -12,6 +12,12 @@ use Rattle.text.specs.Text.{put}
 use Rattle.text.proofs.Behind.{put-length}
 use Rattle.answer.specs.Answer.{refused, answered, answerTo}
 
+-- the array holds the record's block, and it is answered to
+pub record Asked (input : List ℕ) (channels n : ℕ) (xs : List ℕ) : Type 0 where
+  pub few : n ≤ 4096
+  pub long : length xs ≡ 4096
+  pub asks : answerTo input ≡ answered channels (take n xs)
+
 module _ (input out xs : List ℕ) (k channels n : ℕ) (size : length out ≡ 4096) (e : held k channels n xs ≡ readRecord input out) where
   -- it is malformed
   pub none : (k ≡ 0 → ⊥) → answerTo input ≡ refused k
@@ -21,24 +27,21 @@ module _ (input out xs : List ℕ) (k channels n : ℕ) (size : length out ≡ 4
       (λ t. absurd (h (ap (λ r. r .refusal) e ∙ rw t refl)))
       (λ t. rw t (ap refused (sym (ap (λ r. r .refusal) e ∙ rw t refl))))
 
-  module _ (done : k ≡ 0) where
-    well : wellFormed input ≡ true
-    unfolding readRecord
-    well = cases (wellFormed input) (λ t. t) (λ t. let four : k ≡ 4 = ap (λ r. r .refusal) e ∙ rw t refl in absurd (omega (arith, done, four)))
+  well : k ≡ 0 → wellFormed input ≡ true
+  unfolding readRecord
+  well done = cases (wellFormed input) (λ t. t) (λ t. let four : k ≡ 4 = ap (λ r. r .refusal) e ∙ rw t refl in absurd (omega (arith, done, four)))
 
-    result : held k channels n xs ≡ held 0 (channelsOf input) (length (blockOf input)) (put out 0 (blockOf input))
-    unfolding readRecord
-    result = e ∙ rw well refl
-
-    pub few : n ≤ 4096
-    few = omega (arith, ap (λ r. r .size) result, block-few input (formed input well) out size)
-
-    pub long : length xs ≡ 4096
-    long = ap (λ r. length (r .buffer)) result ∙ put-length out 0 (blockOf input) (omega (arith, size, block-few input (formed input well) out size)) ∙ size
-
-    pub block-is : take n xs ≡ blockOf input
-    block-is = ap₂ (λ (m : ℕ) (ys : List ℕ). take m ys) (ap (λ r. r .size) result) (ap (λ r. r .buffer) result) ∙ block-taken input (formed input well) out size
-
-    pub asks : answerTo input ≡ answered channels (take n xs)
-    unfolding answerTo
-    asks = rw (well, block-is, ← (ap (λ r. r .channels) result)) refl
+  pub asked : k ≡ 0 → Asked input channels n xs
+  unfolding answerTo readRecord
+  asked done =
+      let t = well done in
+      let result : held k channels n xs ≡ held 0 (channelsOf input) (length (blockOf input)) (put out 0 (blockOf input)) = e ∙ rw t refl in
+      let n-is = ap (λ r. r .size) result in
+      let xs-are = ap (λ r. r .buffer) result in
+      let room = block-few input (formed input t) out size in
+      let block-is = ap₂ (λ (m : ℕ) (ys : List ℕ). take m ys) n-is xs-are ∙ block-taken input (formed input t) out size in
+      record {
+        few = omega (arith, n-is, room);
+        long = ap length xs-are ∙ put-length out 0 (blockOf input) (omega (arith, size, room)) ∙ size;
+        asks = rw (t, block-is, ← (ap (λ r. r .channels) result)) refl;
+      }

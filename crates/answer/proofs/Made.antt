@@ -9,8 +9,8 @@ use lib.ListN.{length, take, drop, length-append, length-drop}
 use lib.Seq.{take-at, length-take-le}
 use borrow.Author.Tests.{eq-eqb, ne-eqb, eqb-true}
 use borrow.Table.Steps.{cases}
-use Rattle.ms_layout.proofs.Sizes.{shape}
 use Rattle.ms_layout.specs.Sizes.{samplesOf}
+use Rattle.ms_layout.proofs.Sizes.{shape}
 use Rattle.repacking.specs.Repack.{repacked, differ, answered, repackRefusal, repackBlock}
 use Rattle.repacking.proofs.Settled.{repacked-length}
 use Rattle.repacking.proofs.Theorems.{allowed}
@@ -25,10 +25,16 @@ refusal-is c block out =
     let number = repackRefusal c (length block) (length out) in
     cases (eqb number 0) (λ t. rw t (sym (eqb-true number 0 t))) (λ t. rw t refl)
 
-module _ (c : ℕ) (block out xs : List ℕ) (k : ℕ) (differs : Bool) (few : length block ≤ 4096) (size : length out ≡ 4096)
+-- the array begins with the new block
+pub record Made (c : ℕ) (block : List ℕ) (differs : Bool) (xs : List ℕ) : Type 0 where
+  pub small : Small c block
+  pub size : length xs ≡ 4096
+  pub says : let new = take (length block) xs in Says.answered c block ≡ line (said differs (lossOf c block new) ++ hex new)
+
+module _ (c : ℕ) (block out xs : List ℕ) (k : ℕ) (differs : Bool) (few : length block ≤ 4096) (room : length out ≡ 4096)
     (e : answered k differs xs ≡ repackBlock c block (take (length block) out)) where
-  pub long : length (take (length block) out) ≡ length block
-  long = length-take-le (length block) out (omega (arith, few, size))
+  long : length (take (length block) out) ≡ length block
+  long = length-take-le (length block) out (omega (arith, few, room))
 
   number : k ≡ repackRefusal c (length block) (length block)
   number = ap (λ r. r .refusal) e ∙ refusal-is c block (take (length block) out) ∙ ap (repackRefusal c (length block)) long
@@ -39,30 +45,21 @@ module _ (c : ℕ) (block out xs : List ℕ) (k : ℕ) (differs : Bool) (few : l
       let other : repackRefusal c (length block) (length block) ≡ 0 → ⊥ = λ z. h (number ∙ z) in
       rw (ne-eqb (repackRefusal c (length block) (length block)) 0 other, ← number) refl
 
-  module _ (done : k ≡ 0) where
-    taken : repackRefusal c (length block) (length block) ≡ 0
-    taken = sym number ∙ done
-
-    pub small : Small c block
-    small = (allowed c (length block) (length block) taken .0, few)
-
-    result : answered k differs xs ≡ answered 0 (differ block (repacked c block)) (repacked c block)
-    unfolding repackBlock
-    result = e ∙ rw (long, taken) refl
-
-    made : length xs ≡ length block
-    made = ap (λ r. length (r .buffer)) result ∙ repacked-length block (shape c (length block) (samplesOf c (length block)) (small .0))
-
-    pub made-size : length (xs ++ drop (length block) out) ≡ 4096
-    made-size = length-append xs (drop (length block) out) ∙ omega (arith, made, few, size, length-drop (length block) out)
-
-    pub made-is : take (length block) (xs ++ drop (length block) out) ≡ repacked c block
-    made-is = take-at xs (drop (length block) out) (length block) made ∙ ap (λ r. r .buffer) result
-
-    -- what is printed then
-    pub says : Says.answered c block ≡ line (said differs (lossOf c block (repacked c block)) ++ hex (repacked c block))
-    unfolding Says.answered Says.told
-    says = rw (taken, ← (ap (λ r. r .changed) result)) refl
+  pub made : k ≡ 0 → Made c block differs (xs ++ drop (length block) out)
+  unfolding repackBlock Says.answered Says.told
+  made done =
+      let n = length block in
+      let taken : repackRefusal c n n ≡ 0 = sym number ∙ done in
+      let small : Small c block = (allowed c n n taken .0, few) in
+      let result : answered k differs xs ≡ answered 0 (differ block (repacked c block)) (repacked c block) = e ∙ rw (long, taken) refl in
+      let xs-are = ap (λ r. r .buffer) result in
+      let many = ap length xs-are ∙ repacked-length block (shape c n (samplesOf c n) (small .0)) in
+      let new-is = take-at xs (drop n out) n many ∙ xs-are in
+      record {
+        small = small;
+        size = length-append xs (drop n out) ∙ omega (arith, many, few, room, length-drop n out);
+        says = rw (taken, new-is, ← (ap (λ r. r .changed) result)) refl;
+      }
 
 -- A buffer as long as it was before a short text was put into it.
 pub as-long : (out text buffer : List ℕ) (place : ℕ) → Stands out 0 text place buffer → place ≤ 52 → length buffer ≡ 8245 → length out ≡ 8245
@@ -71,3 +68,11 @@ as-long out text buffer place (place-is, buffer-is) few size =
     let rest = length-drop (0 + length text) out in
     let whole : length buffer ≡ length (text ++ drop (0 + length text) out) = ap length buffer-is in
     omega (arith, place-is, few, size, parts, rest, whole)
+
+-- The first places of a buffer have the text that was put there.
+pub counts : (out text buffer : List ℕ) (place : ℕ) → Stands out 0 text place buffer → (place ≤ length buffer) × (place ≡ length (take place buffer))
+counts out text buffer place (place-is, buffer-is) =
+    let parts = length-append text (drop (0 + length text) out) in
+    let whole : length buffer ≡ length (text ++ drop (0 + length text) out) = ap length buffer-is in
+    let some : place ≤ length buffer = omega (arith, place-is, parts, whole) in
+    (some, sym (length-take-le place buffer some))

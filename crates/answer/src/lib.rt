@@ -22,9 +22,10 @@ ghost use Rattle.answer.specs.Answer.{answerTo, Stands, Small};
 // The longest answer: three numbers of ten digits at most, among 22 other bytes, and a block of 4,096 bytes in hex.
 pub const ROOM: usize = 8245;
 
-// Puts the answer at the start of `out`, and says how long it is.
+// Puts the answer at the start of `out`, and says how long it is. That it is so long in `out` too follows; it is stated for `&out[..n]`.
 pub fn answer(input: &[u8], out: &mut [u8; ROOM]) -> usize
     ensures { λ r. ⌜ Stands (now (out .entry)) 0 (answerTo (now (input .entry))) r (now (out .exit)) ⌝ }
+    ensures { λ r. ⌜ (r ≤ length (now (out .exit))) × (r ≡ length (take r (now (out .exit)))) ⌝ }
 {
     let mut block = no_bytes();
     let record = read(input, &mut block);
