@@ -6,15 +6,16 @@ RUST := cargo run --release --offline --locked --manifest-path
 .PHONY: help demo test bench exhaustive
 
 help:
-	@echo 'make demo        prove the demo, if it is not proved yet, and run it'
+	@echo 'make demo        prove the program repack, if it is not proved yet, and run it on a record'
 	@echo 'make test        every test: all proofs from nothing, then all that is run'
 	@echo 'make bench       time the proved library against the Rust that it replaces'
 	@echo 'make exhaustive  compare the proved library with the Rust on all inputs, for as long as it takes'
 
 # Of what rt says, a line for each crate; target/log/NAME.out has it all.
 demo:
-	@rt check demo | grep --line-buffered '^rt:'
-	@tools/run demo
+	@rt check repack | grep --line-buffered '^rt:'
+	@echo 'repack, of the record 00 07 01 01 F6 7F 00 00 07:'
+	@tools/run repack <tests/cases/repack/example/stdin
 
 test:
 	@tools/test

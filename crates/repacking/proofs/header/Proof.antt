@@ -8,6 +8,7 @@ use mir.Val.{SFits}
 use mir.ValLaws.{toZ-ofZ}
 use borrow.Author.Needs.{needs}
 use Rattle.num.specs.Halves.{bitsOf}
+use Rattle.adpcm_ima.specs.declared.AdpcmImaState.{AdpcmImaState}
 use Rattle.adpcm_ima.specs.View.{stateOf}
 use Rattle.ms_layout.specs.Header.{headOf, headed}
 use Rattle.ms_layout.specs.Sizes.{samplesOf}
@@ -23,6 +24,16 @@ is c = let a = c .args in let n = length (a .block .now) in shape (a .c) n (samp
 
 room : (c : tie.Start) → (4 * c .args .ch + 4 ≤ length (c .args .block .now)) × (length (c .args .block .now) ≤ 65535) × (length (c .args .out .now) ≡ length (c .args .block .now))
 room c = (fourth (c .args .block .now) (is c) (c .args .ch) (c .pre .1), is c .short, c .pre .0 .1)
+
+-- the bytes of the header
+abbrev low : ℕ → ℕ
+low bits = bits % 256
+
+abbrev high : ℕ → ℕ
+high bits = bits / 256
+
+abbrev index : AdpcmImaState → ℕ
+index state = state .«step_index»
 
 mul-at : tie.Need-mul-at
 mul-at c = omega (arith, room (c .before .before))
@@ -49,7 +60,7 @@ add-out : tie.Need-add-out
 add-out c = omega (arith, room (c .before .before .before .before .before .before .before .before))
 
 slice-write-out-2 : tie.Need-slice-write-out-2
-slice-write-out-2 c = omega (arith, room (c .before .before .before .before .before .before .before .before), length-set (c .before .before .before .before .before .before .before .before .args .out .now) (4 * c .before .before .before .before .before .before .before .before .args .ch) (c .bits-of .result % 256))
+slice-write-out-2 c = omega (arith, room (c .before .before .before .before .before .before .before .before), length-set (c .before .before .before .before .before .before .before .before .args .out .now) (4 * c .before .before .before .before .before .before .before .before .args .ch) (low (c .bits-of .result)))
 
 add-out-2 : tie.Need-add-out-2
 add-out-2 c = omega (arith, room (c .before .before .before .before .before .before .before .before))
@@ -58,8 +69,8 @@ slice-write-out-3 : tie.Need-slice-write-out-3
 slice-write-out-3 c =
     let s = c .before .before .before .before .before .before .before .before in
     let at = 4 * s .args .ch in
-    let o₁ = set (s .args .out .now) at (c .bits-of .result % 256) in
-    omega (arith, room s, length-set (s .args .out .now) at (c .bits-of .result % 256), length-set o₁ (at + 1) (c .bits-of .result / 256))
+    let o₁ = set (s .args .out .now) at (low (c .bits-of .result)) in
+    omega (arith, room s, length-set (s .args .out .now) at (low (c .bits-of .result)), length-set o₁ (at + 1) (high (c .bits-of .result)))
 
 add-out-3 : tie.Need-add-out-3
 add-out-3 c = omega (arith, room (c .before .before .before .before .before .before .before .before))
@@ -68,9 +79,9 @@ slice-write-out-4 : tie.Need-slice-write-out-4
 slice-write-out-4 c =
     let s = c .before .before .before .before .before .before .before .before in
     let at = 4 * s .args .ch in
-    let o₁ = set (s .args .out .now) at (c .bits-of .result % 256) in
-    let o₂ = set o₁ (at + 1) (c .bits-of .result / 256) in
-    omega (arith, room s, length-set (s .args .out .now) at (c .bits-of .result % 256), length-set o₁ (at + 1) (c .bits-of .result / 256), length-set o₂ (at + 2) (c .before .before .head .result .«step_index»))
+    let o₁ = set (s .args .out .now) at (low (c .bits-of .result)) in
+    let o₂ = set o₁ (at + 1) (high (c .bits-of .result)) in
+    omega (arith, room s, length-set (s .args .out .now) at (low (c .bits-of .result)), length-set o₁ (at + 1) (high (c .bits-of .result)), length-set o₂ (at + 2) (index (c .before .before .head .result)))
 
 returns : tie.Need-returns
 returns c =
