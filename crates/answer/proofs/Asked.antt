@@ -1,12 +1,12 @@
 -- What is asked by a record that was read into an array: nothing, or its block, which stands there. Assumes nothing.
 use mathlib.Core.Path.{_≡_, refl, sym, ap, ap₂, _∙_}
-use mathlib.Core.Bool.{true, false}
+use mathlib.Core.Bool.{true}
 use mathlib.Core.List.{List}
 use Prim.Native.Nat.{ℕ, _≤_}
 use native.Mathlib.Omega.{arith}
 use lib.ListN.{length, take}
 use borrow.Table.Steps.{cases}
-use Rattle.record.specs.Record.{Held, held, channelsOf, blockOf, wellFormed, readRecord}
+use Rattle.record.specs.Record.{held, channelsOf, blockOf, wellFormed, readRecord}
 use Rattle.record.proofs.Formed.{formed, block-few, block-taken}
 use Rattle.text.specs.Text.{put}
 use Rattle.text.proofs.Behind.{put-length}

@@ -1,22 +1,22 @@
 -- A block repacked into the first places of an array: what was refused, and what stands in the array otherwise. Assumes nothing.
 use mathlib.Core.Path.{_≡_, refl, sym, ap, _∙_}
-use mathlib.Core.Bool.{Bool, cond}
+use mathlib.Core.Bool.{Bool}
 use mathlib.Core.List.{List, _++_}
 use Prim.Native.Nat.{ℕ, _+_, _≤_}
 use native.Mathlib.Omega.{arith}
 use lib.Dec.{eqb}
 use lib.ListN.{length, take, drop, length-append, length-drop}
 use lib.Seq.{take-at, length-take-le}
-use borrow.Author.Tests.{eq-eqb, ne-eqb, eqb-true}
+use borrow.Author.Tests.{ne-eqb, eqb-true}
 use borrow.Table.Steps.{cases}
 use Rattle.ms_layout.specs.Sizes.{samplesOf}
 use Rattle.ms_layout.proofs.Sizes.{shape}
 use Rattle.repacking.specs.Repack.{repacked, differ, answered, repackRefusal, repackBlock}
 use Rattle.repacking.proofs.Settled.{repacked-length}
 use Rattle.repacking.proofs.Theorems.{allowed}
-use Rattle.text.specs.Text.{hex, line}
+use Rattle.text.specs.Text.{hex, line, Stands}
 use Rattle.answer.specs.Answer as Says
-use Rattle.answer.specs.Answer.{Stands, Small, said, lossOf}
+use Rattle.answer.specs.Answer.{Small, said, lossOf}
 
 -- the number that repacking answers
 refusal-is : (c : ℕ) (block out : List ℕ) → repackBlock c block out .refusal ≡ repackRefusal c (length block) (length out)

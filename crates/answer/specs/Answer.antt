@@ -1,16 +1,15 @@
 -- What the program `repack` prints. Assumes nothing.
-use mathlib.Core.Path.{_≡_}
 use mathlib.Core.Bool.{Bool, cond}
 use mathlib.Core.List.{List, _++_}
 use mathlib.Core.Option.{Option, none, some}
-use Prim.Native.Nat.{ℕ, _+_, _≤_}
+use Prim.Native.Nat.{ℕ, _≤_}
 use lib.Dec.{eqb}
 use lib.ListN.{length}
 use Rattle.ms_layout.specs.Sizes.{samplesOf, Taken}
 use Rattle.ms_block.specs.Block.{decodedBlock}
 use Rattle.repacking.specs.Repack.{repacked, differ, repackRefusal}
 use Rattle.loss.specs.Loss.{Reported, lossReport}
-use Rattle.text.specs.Text.{ascii, hex, decimal, line, put}
+use Rattle.text.specs.Text.{ascii, hex, decimal, line}
 use Rattle.record.specs.Record.{channelsOf, blockOf, wellFormed}
 
 -- It prints `refused N`;
@@ -48,10 +47,6 @@ answered c block = let number = repackRefusal c (length block) (length block) in
 
 unfoldable pub answerTo : List ℕ → List ℕ
 answerTo input = cond (wellFormed input) (answered (channelsOf input) (blockOf input)) (refused 4)
-
--- A text put at a place of a buffer: it says where the next would stand, and the rest of the buffer is left as it was.
-abbrev pub Stands : List ℕ → ℕ → List ℕ → ℕ → List ℕ → Type 0
-Stands out at s place buffer = (place ≡ at + length s) × (buffer ≡ put out at s)
 
 -- A block that is taken, and no longer than a record's.
 abbrev pub Small : ℕ → List ℕ → Type 0

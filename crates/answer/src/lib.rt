@@ -16,8 +16,9 @@ ghost use Rattle.loss.specs.Loss.{placeOf, reported};
 ghost use Rattle.ms_block.specs.Block.{decodedBlock};
 ghost use Rattle.ms_layout.specs.Sizes.{samplesOf};
 ghost use Rattle.text.specs.Text as Text;
+ghost use Rattle.text.specs.Text.{Stands};
 ghost use Rattle.answer.specs.Answer as Says;
-ghost use Rattle.answer.specs.Answer.{answerTo, Stands, Small};
+ghost use Rattle.answer.specs.Answer.{answerTo, Small};
 
 // The longest answer: three numbers of ten digits at most, among 22 other bytes, and a block of 4,096 bytes in hex.
 pub const ROOM: usize = 8245;

@@ -22,7 +22,7 @@ use Rattle.ms_layout.specs.Header.{headOf}
 use Rattle.ms_layout.specs.Sizes.{most, samplesOf, bytesOf, refusalOf}
 use Rattle.ms_layout.specs.Weave.{place, channelAt, itemAt, strand, woven}
 use Rattle.ms_layout.proofs.Sizes.{Shape, four-bytes, samples-each, even-samples}
-use Rattle.ms_layout.proofs.Weave.{in-list, woven-length, strand-at, strand-length, unwoven}
+use Rattle.ms_layout.proofs.Weave.{woven-length, strand-length, unwoven}
 use Rattle.ms_block.specs.Block.{decodedChannel, encodedChannel, bytesIn, samplesIn, decodedBlock, stateIn, each, begunIn, begun, encodedIn, blockFrom, statesFrom, encodedBlock}
 use Rattle.ms_block.specs.Call.{encodeBlock}
 

@@ -1,7 +1,7 @@
 -- The refusal of a block and a second buffer, from that of the block alone. Assumes nothing.
 use mathlib.Core.Path.{_≡_, refl, ap, _∙_}
 use mathlib.Core.Bool.{Bool, true, false, cond, _&&_, and-true}
-use Prim.Native.Nat.{ℕ, _*_, _%_, min}
+use Prim.Native.Nat.{ℕ, _*_, min}
 use native.Mathlib.Omega.{arith}
 use lib.Dec.{eqb, leb}
 use borrow.Author.Tests.{eq-eqb, leb-true}

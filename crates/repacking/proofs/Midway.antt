@@ -20,7 +20,6 @@ use Rattle.ms_layout.specs.Weave.{place, channelAt, itemAt}
 use Rattle.ms_layout.proofs.Sizes.{Shape, four-bytes}
 use Rattle.ms_layout.proofs.Weave.{quotient, rest, below, placed, channel-lt, in-list, in-strand, strand-at, strand-length}
 use Rattle.ms_block.specs.Block.{decodedChannel, encodedChannel, bytesIn}
-use Rattle.ms_block.proofs.Midst.{one-place}
 use Rattle.repacking.specs.Progress.{Upto}
 use Rattle.repacking.specs.Repack.{repacked}
 use Rattle.repacking.proofs.Settled.{again, repacked-length, channel-again}

@@ -2,15 +2,14 @@
 -- Then a block by its channels. Over any number of channels that is taken. Assumes nothing.
 use mathlib.Core.Path.{_≡_, refl, sym, ap, ap₂, _∙_}
 use mathlib.Core.List.{List, [], _∷_, _++_}
-use Prim.Native.Nat.{ℕ, _+_, _-_, _*_, _/_, _≤_, _<_}
+use Prim.Native.Nat.{ℕ, _+_, _*_, _≤_, _<_}
 use native.Mathlib.Omega.{arith}
 use lib.IntN.{ℤ, pos}
 use lib.ListN.{length, getD, drop}
-use Rattle.num.specs.Lists.{All}
 use Rattle.num.proofs.Halves.{halves-back}
 use Rattle.adpcm_ima.specs.Step.{State, state, sixteen, In, lowered}
 use Rattle.adpcm_ima.specs.Table.{imaSteps}
-use Rattle.adpcm_ima.specs.Series.{Within, decoded, encoded, predictors, nibblesOf, packed}
+use Rattle.adpcm_ima.specs.Series.{Within, predictors, nibblesOf, packed}
 use Rattle.adpcm_ima.proofs.Bounds.{bits-in}
 use Rattle.adpcm_ima.proofs.Rising.{step-within}
 use Rattle.adpcm_ima.proofs.Series.{encodes-again}

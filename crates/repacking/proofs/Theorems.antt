@@ -16,7 +16,7 @@ use Rattle.adpcm_ima.specs.Step.{State, state, lowered, sixteen}
 use Rattle.ms_layout.specs.Header.{headOf}
 use Rattle.ms_layout.specs.Sizes.{most, channelled, sized, samplesOf, refusalOf, Taken}
 use Rattle.ms_layout.proofs.Sizes.{Shape, shape, passed}
-use Rattle.ms_block.specs.Block.{bytesIn, samplesIn, decodedBlock, stateIn, begunIn, encodedBlock}
+use Rattle.ms_block.specs.Block.{bytesIn, samplesIn, decodedBlock, stateIn, begunIn}
 use Rattle.ms_block.specs.Call.{decodeBlock}
 use Rattle.ms_block.proofs.Round.{channel-begun, samples-many, samples-within, first-within, in-each}
 use Rattle.ms_block.proofs.Theorems.{own-samples-alone}

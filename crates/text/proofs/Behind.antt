@@ -9,9 +9,8 @@ use native.Mathlib.Omega.{arith}
 use native.Mathlib.Numerals.{add-one}
 use lib.ListN.{length, getD, set, take, drop, length-append, length-take, length-drop, take-append-drop}
 use lib.Seq.{paste, paste-suc, length-take-le, take-length, take-at, drop-append-add, drop-drop}
-use borrow.Author.Tests.{le-leb, lt-leb, leb-true}
-use borrow.Table.Steps.{cases}
-use Rattle.text.specs.Text.{put, fits, putIn, placeAfter}
+use borrow.Author.Tests.{le-leb, lt-leb}
+use Rattle.text.specs.Text.{put, fits, putIn, placeAfter, Stands}
 
 -- ---- a text that is written from the front
 
@@ -41,13 +40,6 @@ put-size out at s h = simp (length-append, length-take, length-drop) (omega (ari
 
 pub put-length : (out : List ℕ) (at : ℕ) (s : List ℕ) → at + length s ≤ length out → length (put out at s) ≡ length out
 put-length out at s h = put-size out at s (omega (arith, h))
-
-pub putIn-length : (out : List ℕ) (at : ℕ) (s : List ℕ) → length (putIn out at s) ≡ length out
-unfolding putIn
-putIn-length out at s =
-    cases (fits out at s)
-    (λ e. rw e (put-size out at s (leb-true (length s) (length out - at) e)))
-    (λ e. rw e refl)
 
 -- ---- where there is room
 
@@ -84,10 +76,6 @@ module _ (out : List ℕ) (at : ℕ) (s : List ℕ) (h : at + length s ≤ lengt
 
 -- ---- one text behind another, as calls put them
 
--- s was put at `at`, and the place is behind it
-abbrev pub Stands : List ℕ → ℕ → List ℕ → ℕ → List ℕ → Type 0
-Stands out at s place buffer = (place ≡ at + length s) × (buffer ≡ put out at s)
-
 module _ (out : List ℕ) (at : ℕ) where
   pub stands-none : Stands out at [] at out
   stands-none = (sym (add-zero at), sym (rw (add-zero at) (take-append-drop at out)))
@@ -101,17 +89,3 @@ module _ (out : List ℕ) (at : ℕ) where
         p-is ∙ placeAfter-is buffer place t here ∙ omega (arith, both, place-is),
         b-is ∙ putIn-put buffer place t here ∙ ap₂ (λ (xs : List ℕ) (n : ℕ). put xs n t) buffer-is place-is ∙ put-put out at s room t,
       )
-
-  -- two calls are one
-  module _ (s t : List ℕ) (h : at + length (s ++ t) ≤ length out) where
-    first : Stands out at s (placeAfter out at s) (putIn out at s)
-    first = let k : at + length s ≤ length out = omega (arith, h, length-append s t) in (placeAfter-is out at s k, putIn-put out at s k)
-
-    both : Stands out at (s ++ t) (placeAfter (putIn out at s) (placeAfter out at s) t) (putIn (putIn out at s) (placeAfter out at s) t)
-    both = stands-more s t (placeAfter out at s) (placeAfter (putIn out at s) (placeAfter out at s) t) (putIn out at s) (putIn (putIn out at s) (placeAfter out at s) t) h first refl refl
-
-    pub placeAfter-both : placeAfter (putIn out at s) (placeAfter out at s) t ≡ placeAfter out at (s ++ t)
-    placeAfter-both = both .0 ∙ sym (placeAfter-is out at (s ++ t) h)
-
-    pub putIn-both : putIn (putIn out at s) (placeAfter out at s) t ≡ putIn out at (s ++ t)
-    putIn-both = both .1 ∙ sym (putIn-put out at (s ++ t) h)

@@ -1,6 +1,6 @@
 -- Bytes in hex have two digits each: how long they are, and the two that stand for a byte. Assumes nothing.
-use mathlib.Core.Path.{_≡_, refl, ap}
-use mathlib.Core.List.{List, [], _∷_, _++_}
+use mathlib.Core.Path.{_≡_, refl}
+use mathlib.Core.List.{List, [], _∷_}
 use Prim.Native.Nat.{ℕ, zero, suc, _+_, _*_, _/_, _%_, _<_}
 use native.Mathlib.Omega.{arith}
 use lib.ListN.{length, getD}
@@ -10,11 +10,6 @@ pub hex-length : (bytes : List ℕ) → length (hex bytes) ≡ 2 * length bytes
 unfolding hex
 hex-length [] = refl
 hex-length (b ∷ bytes) = omega (arith, hex-length bytes)
-
-pub hex-append : (xs ys : List ℕ) → hex (xs ++ ys) ≡ hex xs ++ hex ys
-unfolding hex
-hex-append [] ys = refl
-hex-append (x ∷ xs) ys = ap (λ (rest : List ℕ). digit (x / 16) ∷ (digit (x % 16) ∷ rest)) (hex-append xs ys)
 
 pub high-digit : (bytes : List ℕ) (i : ℕ) → i < length bytes → getD (hex bytes) (2 * i) 0 ≡ digit (getD bytes i 0 / 16)
 unfolding hex

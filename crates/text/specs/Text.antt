@@ -1,4 +1,5 @@
 -- What a program prints, byte by byte, and how it comes to stand in a buffer. Assumes nothing.
+use mathlib.Core.Path.{_≡_}
 use mathlib.Core.Bool.{Bool, cond}
 use mathlib.Core.List.{List, [] as nothing, _∷_ as _then_, _++_}
 use Prim.Native.Char.{code}
@@ -48,3 +49,7 @@ putIn out at text = cond (fits out at text) (put out at text) out
 -- and so does the place, which is behind the text otherwise.
 unfoldable pub placeAfter : List ℕ → ℕ → List ℕ → ℕ
 placeAfter out at text = cond (fits out at text) (at + length text) at
+
+-- A text that was put at a place, and the place behind it.
+abbrev pub Stands : List ℕ → ℕ → List ℕ → ℕ → List ℕ → Type 0
+Stands out at text place buffer = (place ≡ at + length text) × (buffer ≡ put out at text)

@@ -5,7 +5,8 @@ use Prim.Native.Nat.{ℕ}
 use native.Mathlib.Omega.{arith}
 use lib.Seq.{length-take-le}
 use borrow.Author.Needs.{needs}
-use Rattle.answer.specs.Answer.{answerTo, Stands}
+use Rattle.text.specs.Text.{Stands}
+use Rattle.answer.specs.Answer.{answerTo}
 use Rattle.answer.proofs.Made.{counts}
 use Rattle.answer.proofs.Asked.{Asked, none, asked}
 use Rattle.answer.proofs.answer.Statement.{statement}

@@ -1,15 +1,14 @@
 -- `answer::changed` meets its contract: the samples of both blocks are as many, and the report is on them alone. Assumes nothing.
 use mathlib.Core.Path.{_≡_, sym, ap, ap₂, _∙_, subst}
-use mathlib.Core.List.{List}
 use Prim.Native.Nat.{ℕ, _≤_}
 use native.Mathlib.Omega.{arith}
-use lib.IntN.{ℤ}
 use lib.ListN.{length, take}
 use lib.Seq.{length-take-le}
 use borrow.Author.Needs.{needs}
 use Rattle.ms_layout.specs.Sizes.{samplesOf}
 use Rattle.loss.specs.Loss.{Reported, lossReport}
-use Rattle.answer.specs.Answer.{Stands, Small, changed}
+use Rattle.text.specs.Text.{Stands}
+use Rattle.answer.specs.Answer.{changed}
 use Rattle.answer.proofs.Small.{samples-are, samples-few}
 use Rattle.answer.proofs.changed.Statement.{statement}
 use Rattle.answer.proofs.changed.Tie as tie

@@ -2,12 +2,12 @@
 use mathlib.Core.Path.{_≡_, sym, subst}
 use mathlib.Core.Bool.{Bool}
 use mathlib.Core.List.{[]}
-use Prim.Native.Nat.{_≤_}
 use native.Mathlib.Omega.{arith}
 use lib.ListN.{length}
 use borrow.Author.Needs.{needs}
+use Rattle.text.specs.Text.{Stands}
 use Rattle.text.proofs.Behind.{stands-none, stands-more}
-use Rattle.answer.specs.Answer.{Stands, same, said, lossOf}
+use Rattle.answer.specs.Answer.{same, said, lossOf}
 use Rattle.answer.proofs.said.Statement.{statement}
 use Rattle.answer.proofs.said.Tie as tie
 

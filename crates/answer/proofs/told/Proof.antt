@@ -1,15 +1,15 @@
 -- `answer::told` meets its contract: the first line, and then the new block, which stands at the start of its array. Assumes nothing.
 use mathlib.Core.Path.{_≡_, sym, subst}
 use mathlib.Core.List.{List, _++_}
-use Prim.Native.Nat.{ℕ, _≤_}
+use Prim.Native.Nat.{ℕ}
 use native.Mathlib.Omega.{arith}
 use lib.ListN.{length, take, drop, length-append}
 use lib.Seq.{length-take-le}
 use borrow.Author.Needs.{needs}
-use Rattle.text.specs.Text.{ascii, hex}
+use Rattle.text.specs.Text.{ascii, hex, Stands}
 use Rattle.text.proofs.Behind.{stands-more}
 use Rattle.text.proofs.Hex.{hex-length}
-use Rattle.answer.specs.Answer.{Stands, said, lossOf}
+use Rattle.answer.specs.Answer.{said, lossOf}
 use Rattle.answer.proofs.Made.{Made, refuses, made, as-long}
 use Rattle.answer.proofs.told.Statement.{statement}
 use Rattle.answer.proofs.told.Tie as tie

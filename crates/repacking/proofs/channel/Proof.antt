@@ -1,16 +1,16 @@
 -- `repacking::channel` meets its contract: a byte is read by one state and written by another, and no other place is touched. Assumes nothing.
-use mathlib.Core.Path.{_≡_, refl, sym, ap, ap₂, _∙_, subst}
-use Prim.Native.Nat.{ℕ, suc, _+_, _-_, _*_, _/_, _%_, _≤_, _<_}
+use mathlib.Core.Path.{_≡_, refl, sym, ap, _∙_, subst}
+use Prim.Native.Nat.{ℕ, suc, _+_, _-_, _*_, _/_, _≤_, _<_}
 use native.Mathlib.Nat.{div-le-self}
 use native.Mathlib.Omega.{arith}
 use lib.ListN.{length, getD, set, length-set}
 use mir.Syntax.{w16}
-use mir.Val.{SFits, toZ, ofZ}
+use mir.Val.{SFits}
 use mir.ValLaws.{toZ-ofZ}
 use borrow.Author.Needs.{needs}
 use Rattle.adpcm_ima.specs.Step.{sixteen, stepped, emitted}
 use Rattle.adpcm_ima.specs.Table.{imaSteps}
-use Rattle.adpcm_ima.specs.View.{stateOf, wideOf}
+use Rattle.adpcm_ima.specs.View.{wideOf}
 use Rattle.ms_layout.specs.Sizes.{samplesOf}
 use Rattle.ms_layout.specs.Weave.{place}
 use Rattle.ms_layout.proofs.Sizes.{Shape, shape, four-bytes}

@@ -1,8 +1,8 @@
 -- `repacking::header` meets its contract: its four bytes are those of the state that it was read as. Assumes nothing.
-use mathlib.Core.Path.{_≡_, sym, ap, ap₂, _∙_}
+use mathlib.Core.Path.{_≡_, sym, ap, _∙_}
 use Prim.Native.Nat.{ℕ, _+_, _*_, _/_, _%_, _≤_}
 use native.Mathlib.Omega.{arith}
-use lib.ListN.{length, getD, set, length-set}
+use lib.ListN.{length, set, length-set}
 use mir.Syntax.{w16}
 use mir.Val.{SFits}
 use mir.ValLaws.{toZ-ofZ}
@@ -10,10 +10,8 @@ use borrow.Author.Needs.{needs}
 use Rattle.num.specs.Halves.{bitsOf}
 use Rattle.adpcm_ima.specs.declared.AdpcmImaState.{AdpcmImaState}
 use Rattle.adpcm_ima.specs.View.{stateOf}
-use Rattle.ms_layout.specs.Header.{headOf, headed}
 use Rattle.ms_layout.specs.Sizes.{samplesOf}
 use Rattle.ms_layout.proofs.Sizes.{Shape, shape}
-use Rattle.ms_block.specs.Block.{bytesIn}
 use Rattle.repacking.proofs.Midway.{fourth, head-own, header-put}
 use Rattle.repacking.proofs.header.Statement.{statement}
 use Rattle.repacking.proofs.header.Tie as tie

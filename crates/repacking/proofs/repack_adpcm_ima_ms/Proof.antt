@@ -5,7 +5,7 @@ use mathlib.Core.List.{List}
 use Prim.Native.Nat.{ℕ}
 use lib.ListN.{length}
 use borrow.Author.Needs.{needs}
-use borrow.Author.Tests.{eq-eqb, ne-eqb}
+use borrow.Author.Tests.{ne-eqb}
 use Rattle.repacking.specs.Progress.{Alike}
 use Rattle.repacking.specs.Repack.{differ, answered, repackRefusal, repackBlock}
 use Rattle.repacking.proofs.Theorems.{allowed}
