@@ -1,7 +1,7 @@
 -- A block repacked into the first places of an array: what was refused, and what stands in the array otherwise. Assumes nothing.
 use mathlib.Core.Path.{_≡_, refl, sym, ap, _∙_}
 use mathlib.Core.Bool.{Bool}
-use mathlib.Core.List.{List, _++_}
+use mathlib.Core.List.{List, _++_, append-assoc}
 use Prim.Native.Nat.{ℕ, _+_, _≤_}
 use native.Mathlib.Omega.{arith}
 use lib.Dec.{eqb}
@@ -14,7 +14,7 @@ use Rattle.ms_layout.proofs.Sizes.{shape}
 use Rattle.repacking.specs.Repack.{repacked, differ, answered, repackRefusal, repackBlock}
 use Rattle.repacking.proofs.Settled.{repacked-length}
 use Rattle.repacking.proofs.Theorems.{allowed}
-use Rattle.text.specs.Text.{hex, line, Stands}
+use Rattle.text.specs.Text.{ascii, hex, line, Stands}
 use Rattle.answer.specs.Answer as Says
 use Rattle.answer.specs.Answer.{Small, said, lossOf}
 
@@ -58,7 +58,7 @@ module _ (c : ℕ) (block out xs : List ℕ) (k : ℕ) (differs : Bool) (few : l
       record {
         small = small;
         size = length-append xs (drop n out) ∙ omega (arith, many, few, room, length-drop n out);
-        says = rw (taken, new-is, ← (ap (λ r. r .changed) result)) refl;
+        says = rw (taken, new-is, ← (ap (λ r. r .changed) result)) (sym (append-assoc (said differs (lossOf c block (repacked c block))) (hex (repacked c block)) (ascii "\n")));
       }
 
 -- A buffer as long as it was before a short text was put into it.

@@ -39,7 +39,7 @@ said differs r = cond differs (changed r) same
 unfoldable pub told : ℕ → List ℕ → List ℕ
 told c block =
     let new = repacked c block in
-    line (said (differ block new) (lossOf c block new) ++ hex new)
+    said (differ block new) (lossOf c block new) ++ line (hex new)
 
 -- 4 is tested first, then 1 and 2.
 unfoldable pub answered : ℕ → List ℕ → List ℕ
