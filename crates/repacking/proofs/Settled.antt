@@ -12,8 +12,7 @@ use Rattle.adpcm_ima.specs.Table.{imaSteps}
 use Rattle.adpcm_ima.specs.Series.{Within, predictors, nibblesOf, packed}
 use Rattle.adpcm_ima.proofs.Bounds.{bits-in}
 use Rattle.adpcm_ima.proofs.Rising.{step-within}
-use Rattle.adpcm_ima.proofs.Series.{encodes-again}
-use Rattle.adpcm_ima.proofs.Series as Series
+use Rattle.adpcm_ima.proofs.Series.{decoded-within as nibbles-within, encodes-again}
 use Rattle.ms_layout.specs.Header.{header, headOf}
 use Rattle.ms_layout.specs.Sizes.{samplesOf}
 use Rattle.ms_layout.specs.Weave.{woven}
@@ -40,7 +39,7 @@ head-held own = omega arith
 
 pub samples-in : (own : List ℕ) → Within sixteen (decodedChannel own)
 unfolding decodedChannel
-samples-in own = (head-in own, Series.decoded-within sixteen imaSteps (headOf own) (nibblesOf (drop 4 own)) (head-in own))
+samples-in own = (head-in own, nibbles-within sixteen imaSteps (headOf own) (nibblesOf (drop 4 own)) (head-in own))
 
 -- the header that was written is read as it was
 head-back : (st : State) (xs : List ℤ) → In sixteen (st .predictor) → st .index ≤ 88 → headOf (encodedChannel st xs .written) ≡ st
