@@ -1,6 +1,6 @@
 -- `repacking::repack_adpcm_ima_ms` meets its contract: the buffer is the block repacked, and whether it differs is what was asked. Assumes nothing.
 use mathlib.Core.Path.{_≡_, refl, sym, ap, ap₂, _∙_}
-use mathlib.Core.Bool.{Bool}
+use mathlib.Core.Bool.{Bool, false}
 use mathlib.Core.List.{List}
 use Prim.Native.Nat.{ℕ}
 use lib.ListN.{length}
@@ -40,7 +40,7 @@ returns-2 c =
     let a = c .before .before .before .before .args in
     let is = c .before .refused .ensures in
     let other : repackRefusal (a .channels) (length (a .block .now)) (length (a .out .now)) ≡ 0 → ⊥ = λ e. c .if1 .left (is ∙ e) in
-    rw (ne-eqb (repackRefusal (a .channels) (length (a .block .now)) (length (a .out .now))) 0 other, is) refl
+    rw (ne-eqb (repackRefusal (a .channels) (length (a .block .now)) (length (a .out .now))) 0 other) (ap (λ (k : ℕ). answered k false (a .out .now)) is)
 
 pub repack-adpcm-ima-ms-spec : {M : Type 1} → statement M
 repack-adpcm-ima-ms-spec =
