@@ -32,7 +32,7 @@ enc = encoded sixteen imaSteps
 -- ---- one channel
 
 -- a sample, and two more for each byte behind the header
-decoded-many : (own : List ℕ) → length (decodedChannel own) ≡ 1 + 2 * (length own - 4)
+pub decoded-many : (own : List ℕ) → length (decodedChannel own) ≡ 1 + 2 * (length own - 4)
 unfolding decodedChannel
 decoded-many own =
     omega (arith, decoded-length sixteen imaSteps (headOf own) (nibblesOf (drop 4 own)), nibbles-length (drop 4 own), length-drop 4 own)

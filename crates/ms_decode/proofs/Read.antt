@@ -18,67 +18,11 @@ use Rattle.ms_layout.proofs.Sizes.{Shape, four-bytes, samples-each, even-sample
 use Rattle.ms_layout.proofs.Weave.{weaves, singly, in-list, in-strand, strand-at, strand-length}
 use Rattle.ms_block.specs.Block.{decodedChannel, bytesIn, decodedBlock}
 use Rattle.ms_decode.specs.Progress.{Headed}
+use Rattle.ms_block.proofs.OwnBytes.{moved, before, sample, low-is, high-is, next-is}
 use Rattle.ms_block.proofs.Midst.{byte, in-group, States, states-first, state-now, states-turn, Frames, frames-first, frames-turn}
 use Rattle.ms_block.proofs.Walk.{Bytes, own, four, own-place, own-inside, room}
 
-abbrev moved : State → ℕ → State
-moved = stepped sixteen imaSteps
-
--- ---- one channel's own bytes
-
--- the state before byte d, the headers' four included
-abbrev before : List ℕ → ℕ → State
-before own d = reads sixteen imaSteps (headOf own) (drop 4 own) (d - 4)
-
-abbrev sample : List ℕ → ℕ → ℤ
-sample own k = getD (decodedChannel own) k (pos 0)
-
-module _ (own : List ℕ) (d : ℕ) (four : 4 ≤ d) (h : d < length own) where
-  abbrev low : State
-  low = moved (before own d) (getD own d 0 % 16)
-
-  abbrev high : State
-  high = moved low (getD own d 0 / 16)
-
-  byte-is : getD (drop 4 own) (d - 4) 0 ≡ getD own d 0
-  byte-is = getD-drop 4 own (d - 4) 0 ∙ ap (λ (i : ℕ). getD own i 0) (omega (arith, four))
-
-  inside : d - 4 < length (drop 4 own)
-  inside = omega (arith, length-drop 4 own, four, h)
-
-  low-is : sample own (2 * d - 7) ≡ low .predictor
-  unfolding decodedChannel
-  low-is =
-      let k : 2 * d - 7 ≡ suc (2 * (d - 4)) = omega (arith, four) in
-      rw k (read-low sixteen imaSteps (d - 4) (headOf own) (drop 4 own) inside ∙ ap (λ (b : ℕ). moved (before own d) (b % 16) .predictor) byte-is)
-
-  high-is : sample own (2 * d - 6) ≡ high .predictor
-  unfolding decodedChannel
-  high-is =
-      let k : 2 * d - 6 ≡ suc (2 * (d - 4) + 1) = omega (arith, four) in
-      rw k (read-high sixteen imaSteps (d - 4) (headOf own) (drop 4 own) inside ∙ ap (λ (b : ℕ). moved (moved (before own d) (b % 16)) (b / 16) .predictor) byte-is)
-
-  next-is : before own (suc d) ≡ high
-  next-is =
-      let k : suc d - 4 ≡ suc (d - 4) = omega (arith, four) in
-      ap (reads sixteen imaSteps (headOf own) (drop 4 own)) k
-      ∙ read-next sixteen imaSteps (d - 4) (headOf own) (drop 4 own) inside
-      ∙ ap (λ (b : ℕ). moved (moved (before own d) (b % 16)) (b / 16)) byte-is
-
 -- ---- the headers
-
--- the first bytes of a channel are its header, which stands behind the headers before it
-pub head-is : {c m : ℕ} (bytes : List ℕ) → Shape c (length bytes) m → (ch : ℕ) → ch < c
-    → headOf (bytesIn c bytes ch) ≡ headed (getD bytes (4 * ch) 0) (getD bytes (4 * ch + 1) 0) (getD bytes (4 * ch + 2) 0)
-unfolding headOf
-head-is {c} bytes is ch l =
-    let hc : 0 < c = omega (arith, l) in
-    let at : (i : ℕ) → i < 4 → getD (bytesIn c bytes ch) i 0 ≡ getD bytes (4 * ch + i) 0 =
-    λ i h.
-    let p : byte c ch i ≡ 4 * ch + i = ap (byte c ch) (omega arith) ∙ in-group c hc 0 ch i h ∙ omega arith in
-    strand-at 4 c (omega arith) hc 0 bytes ch i (omega (arith, h, four-bytes is)) ∙ ap (λ (q : ℕ). getD bytes q 0) p in
-    let z : 4 * ch + 0 ≡ 4 * ch = omega arith in
-    rw (at 0 (omega arith), at 1 (omega arith), at 2 (omega arith), z) refl
 
 -- one channel's more
 pub heads-turn : (c : ℕ) (bytes : List ℕ) (ch : ℕ) (out : List ℤ) (states : List State) (st : State) (x : ℤ)

@@ -20,79 +20,46 @@ use Rattle.ms_layout.specs.Weave.{place, channelAt, itemAt}
 use Rattle.ms_layout.proofs.Sizes.{Shape, four-bytes}
 use Rattle.ms_layout.proofs.Weave.{quotient, rest, below, placed, channel-lt, in-list, in-strand, strand-at, strand-length}
 use Rattle.ms_block.specs.Block.{decodedChannel, encodedChannel, bytesIn}
+use Rattle.ms_block.proofs.OwnBytes as Bytes
+use Rattle.ms_block.proofs.OwnBytes.{moved}
+use Rattle.ms_block.proofs.OwnSamples as Samples
+use Rattle.ms_block.proofs.OwnSamples.{gives}
+use Rattle.ms_block.proofs.Round.{decoded-many}
 use Rattle.repacking.specs.Progress.{Upto}
 use Rattle.repacking.specs.Repack.{repacked}
 use Rattle.repacking.proofs.Settled.{again, repacked-length, channel-again}
 
-abbrev moved : State → ℕ → State
-moved = stepped sixteen imaSteps
-
-abbrev gives : State → ℤ → ℕ
-gives = emitted sixteen imaSteps
-
 -- ---- one channel's own bytes
 
--- the samples behind the first, and the two states before byte d, the header's four included
-abbrev samples : List ℕ → List ℤ
-samples own = decoded sixteen imaSteps (headOf own) (nibblesOf (drop 4 own)) .written
-
+-- the two states before byte d, the header's four included
 abbrev reading : List ℕ → ℕ → State
-reading own d = reads sixteen imaSteps (headOf own) (drop 4 own) (d - 4)
+reading = Bytes.before
 
 abbrev writing : List ℕ → ℕ → State
-writing own d = writes sixteen imaSteps (headOf own) (samples own) (d - 4)
+writing own d = Samples.before (headOf own) (decodedChannel own) d
 
 module _ (own : List ℕ) (d : ℕ) (four : 4 ≤ d) (h : d < length own) where
   abbrev one : State
-  one = moved (reading own d) (getD own d 0 % 16)
+  one = Bytes.low own d four h
 
   abbrev two : State
-  two = moved one (getD own d 0 / 16)
+  two = Bytes.high own d four h
 
   abbrev wrote : State
-  wrote = then sixteen imaSteps (writing own d) (one .predictor)
+  wrote = Samples.moved (writing own d) (one .predictor)
 
-  byte-is : getD (drop 4 own) (d - 4) 0 ≡ getD own d 0
-  byte-is = getD-drop 4 own (d - 4) 0 ∙ ap (λ (i : ℕ). getD own i 0) (omega (arith, four))
-
-  inside : d - 4 < length (drop 4 own)
-  inside = omega (arith, length-drop 4 own, four, h)
-
-  both : 2 * (d - 4) + 1 < length (samples own)
-  both = omega (arith, inside, decoded-length sixteen imaSteps (headOf own) (nibblesOf (drop 4 own)), nibbles-length (drop 4 own))
-
-  low-is : getD (samples own) (2 * (d - 4)) (pos 0) ≡ one .predictor
-  low-is =
-      read-low sixteen imaSteps (d - 4) (headOf own) (drop 4 own) inside
-      ∙ ap (λ (b : ℕ). moved (reading own d) (b % 16) .predictor) byte-is
-
-  high-is : getD (samples own) (2 * (d - 4) + 1) (pos 0) ≡ two .predictor
-  high-is =
-      read-high sixteen imaSteps (d - 4) (headOf own) (drop 4 own) inside
-      ∙ ap (λ (b : ℕ). moved (moved (reading own d) (b % 16)) (b / 16) .predictor) byte-is
-
-  later : suc d - 4 ≡ suc (d - 4)
-  later = omega (arith, four)
+  both : 2 * d - 6 < length (decodedChannel own)
+  both = omega (arith, four, h, decoded-many own)
 
   again-is : getD (again own) d 0 ≡ 16 * gives wrote (two .predictor) + gives (writing own d) (one .predictor)
-  unfolding encodedChannel decodedChannel
   again-is =
-      let j : d ≡ suc (suc (suc (suc (d - 4)))) = omega (arith, four) in
-      ap (λ (i : ℕ). getD (again own) i 0) j
-      ∙ written-byte sixteen imaSteps (d - 4) (headOf own) (samples own) both
-      ∙ ap₂ (λ (x y : ℤ). 16 * gives (then sixteen imaSteps (writing own d) x) y + gives (writing own d) x) low-is high-is
+      Samples.byte-is (headOf own) (decodedChannel own) d four both
+      ∙ ap₂ (λ (x y : ℤ). 16 * gives (Samples.moved (writing own d) x) y + gives (writing own d) x) (Bytes.low-is own d four h) (Bytes.high-is own d four h)
 
-  reading-next : reading own (suc d) ≡ two
-  reading-next =
-      ap (reads sixteen imaSteps (headOf own) (drop 4 own)) later
-      ∙ read-next sixteen imaSteps (d - 4) (headOf own) (drop 4 own) inside
-      ∙ ap (λ (b : ℕ). moved (moved (reading own d) (b % 16)) (b / 16)) byte-is
-
-  writing-next : writing own (suc d) ≡ then sixteen imaSteps wrote (two .predictor)
+  writing-next : writing own (suc d) ≡ Samples.moved wrote (two .predictor)
   writing-next =
-      ap (writes sixteen imaSteps (headOf own) (samples own)) later
-      ∙ written-next sixteen imaSteps (d - 4) (headOf own) (samples own) both
-      ∙ ap₂ (λ (x y : ℤ). then sixteen imaSteps (then sixteen imaSteps (writing own d) x) y) low-is high-is
+      Samples.next-is (headOf own) (decodedChannel own) d four both
+      ∙ ap₂ (λ (x y : ℤ). Samples.moved (Samples.moved (writing own d) x) y) (Bytes.low-is own d four h) (Bytes.high-is own d four h)
 
 -- ---- all channels
 
@@ -160,15 +127,6 @@ module _ {c m : ℕ} (block : List ℕ) (is : Shape c (length block) m) where
   fourth e l = omega (arith, inside-block e 3 l (omega (arith, four-bytes is)))
 
   module _ (e : ℕ) (l : e < c) where
-    -- and are those that the channel's own bytes begin with
-    pub head-own : headOf (bytesIn c block e) ≡ headed (getD block (4 * e) 0) (getD block (4 * e + 1) 0) (getD block (4 * e + 2) 0)
-    unfolding headOf
-    head-own =
-        let four = four-bytes is in
-        let at : (i p : ℕ) → i < 4 → place 4 c e i ≡ p → getD (bytesIn c block e) i 0 ≡ getD block p 0 =
-        λ i p h there. own-byte e i (omega (arith, h, four)) ∙ ap (λ (j : ℕ). getD block j 0) there in
-        rw (at 0 (4 * e) (omega arith) (omega arith), at 1 (4 * e + 1) (omega arith) (omega arith), at 2 (4 * e + 2) (omega arith) (omega arith)) refl
-
     head-put : (i x : ℕ) (out : List ℕ) → i < 4 → place 4 c e i ≡ 4 * e + i → length out ≡ length block → x ≡ getD (again (bytesIn c block e)) i 0
         → Upto c block e i out → Upto c block e (suc i) (set out (4 * e + i) x)
     head-put i x out h there size x-is u =
@@ -216,7 +174,7 @@ module _ {c m : ℕ} (block : List ℕ) (is : Shape c (length block) m) where
         let u-is = high-is′ ∙ ap₂ (λ (s t : State). gives s (t .predictor)) wrote-is two-is in
         record {
           upto = put-one e d (16 * high + low) out l h size (ap₂ (λ (u v : ℕ). 16 * u + v) u-is v-is ∙ sym (again-is own d four inside)) (w .upto);
-          reader = two-is ∙ sym (reading-next own d four inside);
+          reader = two-is ∙ sym (Bytes.next-is own d four inside);
           writer = second-is ∙ ap₂ moved wrote-is u-is ∙ sym (writing-next own d four inside);
         }
 

@@ -13,7 +13,8 @@ use Rattle.adpcm_ima.specs.View.{wideOf}
 use Rattle.ms_layout.specs.Sizes.{most}
 use Rattle.ms_layout.proofs.Sizes.{Shape, shape, samples-all}
 use Rattle.ms_decode.specs.Progress.{Headed}
-use Rattle.ms_decode.proofs.Read.{head-is, heads-turn}
+use Rattle.ms_block.proofs.OwnBytes.{head-is}
+use Rattle.ms_decode.proofs.Read.{heads-turn}
 use Rattle.ms_decode.proofs.heads.Statement.{statement}
 use Rattle.ms_decode.proofs.heads.Tie as tie
 

@@ -12,7 +12,8 @@ use Rattle.adpcm_ima.specs.declared.AdpcmImaState.{AdpcmImaState}
 use Rattle.adpcm_ima.specs.View.{stateOf}
 use Rattle.ms_layout.specs.Sizes.{samplesOf}
 use Rattle.ms_layout.proofs.Sizes.{Shape, shape}
-use Rattle.repacking.proofs.Midway.{fourth, head-own, header-put}
+use Rattle.ms_block.proofs.OwnBytes.{head-is}
+use Rattle.repacking.proofs.Midway.{fourth, header-put}
 use Rattle.repacking.proofs.header.Statement.{statement}
 use Rattle.repacking.proofs.header.Tie as tie
 
@@ -88,7 +89,7 @@ returns c =
     let block = a .block .now in
     let st = c .before .before .head .result in
     let f : SFits w16 (st .predictor) = search needs in
-    let own = c .before .before .head .ensures ∙ sym (head-own block (is s) (a .ch) (s .pre .1)) in
+    let own = c .before .before .head .ensures ∙ sym (head-is block (is s) (a .ch) (s .pre .1)) in
     (own, header-put block (is s) (a .ch) (s .pre .1) (a .out .now) (stateOf st) (c .bits-of .result) (s .pre .0 .1) own (c .bits-of .ensures .0 ∙ ap bitsOf (toZ-ofZ w16 _ f)) (s .pre .2))
 
 pub header-spec : {M : Type 1} → statement M
