@@ -1,25 +1,23 @@
 -- A block that is being decoded: what is written and the channels' states, before, after and between its bytes. Assumes nothing.
-use mathlib.Core.Path.{_≡_, refl, sym, ap, ap₂, _∙_, subst}
+use mathlib.Core.Path.{_≡_, sym, ap, ap₂, _∙_, subst}
 use mathlib.Core.List.{List}
 use Prim.Native.Nat.{ℕ, suc, _+_, _-_, _*_, _/_, _%_, _≤_, _<_}
 use native.Mathlib.Omega.{arith}
 use lib.Dec.{eqb}
 use lib.IntN.{ℤ, pos}
-use lib.ListN.{length, getD, set, drop, length-drop, length-set}
-use lib.Seq.{getD-drop, getD-set-same, getD-set-other, set-set}
+use lib.ListN.{length, getD, set, length-set}
+use lib.Seq.{getD-set-same, getD-set-other, set-set}
 use borrow.Author.Tests.{eqb-true, eqb-false}
 use borrow.Table.Steps.{cases}
-use Rattle.adpcm_ima.specs.Step.{State, state, sixteen, stepped}
-use Rattle.adpcm_ima.specs.Table.{imaSteps}
+use Rattle.adpcm_ima.specs.Step.{State, state}
 use Rattle.adpcm_ima.specs.Series.{decoded, nibblesOf}
-use Rattle.adpcm_ima.proofs.Bytes.{reads, read-low, read-high, read-next}
-use Rattle.ms_layout.specs.Header.{headed, headOf}
+use Rattle.ms_layout.specs.Header.{headOf}
 use Rattle.ms_layout.proofs.Sizes.{Shape, four-bytes, samples-each, even-samples}
 use Rattle.ms_layout.proofs.Weave.{weaves, singly, in-list, in-strand, strand-at, strand-length}
 use Rattle.ms_block.specs.Block.{decodedChannel, bytesIn, decodedBlock}
 use Rattle.ms_decode.specs.Progress.{Headed}
-use Rattle.ms_block.proofs.OwnBytes.{moved, before, sample, low-is, high-is, next-is}
-use Rattle.ms_block.proofs.Midst.{byte, in-group, States, states-first, state-now, states-turn, Frames, frames-first, frames-turn}
+use Rattle.ms_block.proofs.OwnBytes.{moved, before, sample, low, high, low-is, high-is, next-is}
+use Rattle.ms_block.proofs.Midst.{byte, States, states-first, state-now, states-turn, Frames, frames-first, frames-turn}
 use Rattle.ms_block.proofs.Walk.{Bytes, own, four, own-place, own-inside, room}
 
 -- ---- the headers

@@ -6,15 +6,14 @@ use native.Mathlib.Omega.{arith}
 use lib.Dec.{ltb, eqb}
 use lib.IntN.{ℤ, pos}
 use lib.ListN.{length, getD, set, take, drop, length-drop, length-set}
-use lib.Seq.{getD-drop, getD-set-same, getD-set-other, set-set, take-all}
+use lib.Seq.{getD-set-same, getD-set-other, set-set, take-all}
 use borrow.Author.Tests.{eqb-true, eqb-false, ltb-true, ltb-false}
 use borrow.Table.Steps.{cases}
 use Rattle.num.specs.Halves.{bitsOf}
 use Rattle.num.proofs.Lists.{as-far, as-long}
-use Rattle.adpcm_ima.specs.Step.{State, state, sixteen, emitted}
+use Rattle.adpcm_ima.specs.Step.{State, state, sixteen}
 use Rattle.adpcm_ima.specs.Table.{imaSteps}
 use Rattle.adpcm_ima.specs.Series.{encoded}
-use Rattle.adpcm_ima.proofs.Bytes.{writes, then, written-byte, written-next}
 use Rattle.ms_layout.specs.Sizes.{most, bytesOf}
 use Rattle.ms_layout.proofs.Sizes.{Shape, four-bytes, samples-each}
 use Rattle.ms_layout.proofs.Weave.{singly, in-list, in-strand, strand-at, strand-length, woven-at}

@@ -4,18 +4,15 @@ use mathlib.Core.List.{List}
 use Prim.Native.Nat.{ℕ, suc, _+_, _-_, _*_, _/_, _%_, _≤_, _<_}
 use native.Mathlib.Omega.{arith}
 use lib.Dec.{eqb}
-use lib.IntN.{ℤ, pos}
-use lib.ListN.{length, getD, set, drop, length-drop, length-set}
-use lib.Seq.{ext-getD, getD-drop, getD-set-same, getD-set-other}
+use lib.IntN.{ℤ}
+use lib.ListN.{length, getD, set, length-set}
+use lib.Seq.{ext-getD, getD-set-same, getD-set-other}
 use borrow.Author.Tests.{eqb-true, eqb-false}
 use borrow.Table.Steps.{cases}
 use Rattle.num.specs.Halves.{bitsOf}
-use Rattle.adpcm_ima.specs.Step.{State, sixteen, stepped, emitted}
-use Rattle.adpcm_ima.specs.Table.{imaSteps}
+use Rattle.adpcm_ima.specs.Step.{State}
 use Rattle.adpcm_ima.specs.Series.{decoded, encoded, nibblesOf}
-use Rattle.adpcm_ima.proofs.Bytes.{reads, read-low, read-high, read-next, writes, then, written-byte, written-next}
-use Rattle.adpcm_ima.proofs.Series.{decoded-length, nibbles-length}
-use Rattle.ms_layout.specs.Header.{headed, headOf}
+use Rattle.ms_layout.specs.Header.{headOf}
 use Rattle.ms_layout.specs.Weave.{place, channelAt, itemAt}
 use Rattle.ms_layout.proofs.Sizes.{Shape, four-bytes}
 use Rattle.ms_layout.proofs.Weave.{quotient, rest, below, placed, channel-lt, in-list, in-strand, strand-at, strand-length}

@@ -1,5 +1,5 @@
 -- `repacking::repack_adpcm_ima_ms` meets its contract: the buffer is the block repacked, and whether it differs is what was asked. Assumes nothing.
-use mathlib.Core.Path.{_≡_, refl, sym, ap, ap₂, _∙_}
+use mathlib.Core.Path.{_≡_, sym, ap, ap₂, _∙_}
 use mathlib.Core.Bool.{Bool, false}
 use mathlib.Core.List.{List}
 use Prim.Native.Nat.{ℕ}
