@@ -3,6 +3,7 @@ pub mod Bytes
 pub mod Counted
 pub mod Fused
 pub mod Held
+pub mod InPlace
 pub mod Parts
 pub mod Reach
 pub mod Rising

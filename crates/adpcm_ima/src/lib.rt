@@ -1,8 +1,11 @@
 // One nibble of IMA ADPCM, decoded and encoded. A state goes in by value, and the next one comes back.
 mod coded;
+mod lent;
 mod nibble;
 mod step;
 
+pub use lent::decode_adpcm_ima;
+pub use lent::encode_adpcm_ima;
 pub use step::Coded;
 pub use step::Wide;
 ghost use mathlib.Core.Path.{_≡_};
