@@ -106,6 +106,7 @@ pub const IMA_STEP_TABLE: [u16; 89] = [
     32767,
 ];
 
+#[repr(C)]
 pub struct AdpcmImaState {
     pub predictor: i16,
     pub step_index: u8,
