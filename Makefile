@@ -26,5 +26,6 @@ bench:
 # It may be stopped at any moment, and goes on from there.
 exhaustive:
 	@tools/archive
+	@tools/archive adpcm_ima
 	@tools/archive sweep
 	@$(RUST) tests/differential/Cargo.toml -- exhaustive

@@ -12,8 +12,9 @@ fn main() {
     let folder = root.join("target/staticlib");
     println!("cargo:rustc-link-search=native={}", folder.display());
     link(&folder, "sprettuhol");
-    // the one archive that is made for the tests alone
+    // the archives that are made for the tests alone
     if name == "differential" {
+        link(&folder, "adpcm_ima");
         link(&folder, "sweep");
     }
 }

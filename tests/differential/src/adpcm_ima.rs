@@ -4,35 +4,50 @@
 //! exhaustive run; here it is asked about the samples at which an answer can go wrong by one, from
 //! every state, and about all samples from some states.
 
-use crate::nibble::{oracle, ours};
+use crate::lent;
+use crate::nibble::{oracle, ours, After, Before};
 use crate::parallel::each;
 use crate::places::Places;
 use crate::report::Report;
 use crate::sweep;
 
 pub fn reports(progress: bool) -> Vec<Report> {
-    vec![decode(progress), encode(progress), sweep::some(progress)]
+    vec![
+        decode(progress, "decode_adpcm_ima", ours::decode),
+        encode(progress, "encode_adpcm_ima", ours::encode),
+        decode(progress, "decode_adpcm_ima lent", lent::decode),
+        encode(progress, "encode_adpcm_ima lent", lent::encode),
+        sweep::some(progress),
+    ]
 }
 
-fn decode(progress: bool) -> Report {
-    let report = Report::start(progress, "decode_adpcm_ima");
+fn decode(
+    progress: bool,
+    name: &'static str,
+    ours: impl Fn(Before<u8>) -> After<i16> + Sync,
+) -> Report {
+    let report = Report::start(progress, name);
     each(0..=u8::MAX, |index| {
         for predictor in i16::MIN..=i16::MAX {
             let inputs = (0..=u8::MAX).map(|byte| (byte, predictor, index));
-            report.compare(inputs, ours::decode, oracle::decode);
+            report.compare(inputs, &ours, oracle::decode);
         }
     });
     report
 }
 
-fn encode(progress: bool) -> Report {
-    let report = Report::start(progress, "encode_adpcm_ima");
+fn encode(
+    progress: bool,
+    name: &'static str,
+    ours: impl Fn(Before<i16>) -> After<u8> + Sync,
+) -> Report {
+    let report = Report::start(progress, name);
     each(0..=u8::MAX, |index| {
         let places = Places::of(index);
         for predictor in i16::MIN..=i16::MAX {
             let samples = places.samples(predictor);
             let inputs = samples.map(|sample| (sample, predictor, index));
-            report.compare(inputs, ours::encode, oracle::encode);
+            report.compare(inputs, &ours, oracle::encode);
             // a check of the samples themselves, from some states
             if number(predictor, index).is_multiple_of(4099) {
                 places.check(predictor);

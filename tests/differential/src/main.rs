@@ -16,6 +16,7 @@ mod headers;
 mod ima4;
 mod ledger;
 mod lengths;
+mod lent;
 mod loss;
 mod ms;
 mod nibble;

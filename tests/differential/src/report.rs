@@ -93,7 +93,7 @@ impl Report {
 
     pub fn summary(&self) {
         println!(
-            "{:<18}{:>13} compared, {} differ",
+            "{:<22}{:>10} compared, {} differ",
             self.name,
             self.compared(),
             self.differ()
