@@ -106,6 +106,7 @@ pub const IMA_STEP_TABLE: [u16; 89] = [
     32767,
 ];
 
+// In the layout of C, for Rust lends it to the calls of `lent`.
 #[repr(C)]
 pub struct AdpcmImaState {
     pub predictor: i16,

@@ -21,7 +21,7 @@ mod c {
 
 #[inline(always)]
 pub fn decode(before: Before<u8>) -> After<i16> {
-    // SAFETY: the proved function reads and writes the state that it is lent, and nothing else.
+    // SAFETY: the proved function reads and writes the state that it is lent.
     lending(before, |nibble, state| unsafe {
         c::decode_adpcm_ima(nibble, state)
     })
@@ -35,25 +35,25 @@ pub fn encode(before: Before<i16>) -> After<u8> {
     })
 }
 
-/// What no state that is lent is written into.
+/// Stands on either side of the state that is lent, and has to stay as it is.
 const NEIGHBOUR: State = State {
     predictor: 0x5a5a,
     step_index: 0xa5,
 };
 
-/// Lends the one in the middle of three states. That the two layouts are one is not proved, so the other
-/// two are looked at.
+/// Lends the middle one of three states. That Rust lays the struct out as the proved one is laid out is
+/// not proved, so what stands beside it is looked at too.
 #[inline(always)]
 fn lending<T, U>(
     (input, predictor, step_index): Before<T>,
-    call: impl Fn(T, &mut State) -> U,
+    call: impl Fn(T, *mut State) -> U,
 ) -> After<U> {
     let state = State {
         predictor,
         step_index,
     };
     let mut states = [NEIGHBOUR, state, NEIGHBOUR];
-    let answer = call(input, &mut states[1]);
+    let answer = call(input, states.as_mut_ptr().wrapping_add(1));
     let [below, after, above] = states;
     assert!(
         below == NEIGHBOUR && above == NEIGHBOUR,
