@@ -149,13 +149,17 @@ module _ (f : Thin) where
     abbrev lends : Clauses 𝓤 lent
     lends κs a = record { ghost = Unit {0}; requires = λ _. emp 𝓤; ensures = λ _ r e. Left κs (a .0) (a .1 .0) (e .1 .0) r }
 
-    abbrev Step : Contract 𝓤
-    Step = tripleOf 𝓤 H A (by-value .signature) (closing 𝓤 H A by-value steps)
+    abbrev Stepped : Contract 𝓤
+    Stepped = tripleOf 𝓤 H A (by-value .signature) (closing 𝓤 H A by-value steps)
+
+    -- of the state that is left and of the number that is given, they ensure the same
+    abbrev Same : Type 1
+    Same = (κs : Lfts 1) (s : RefT S) (n : N) (r : f .Answer) → ent 𝓤 (Done (now s) n r) (Left κs n s (at-last s (f .next r)) (f .number r))
 
     -- ---- the walk
-    module _ (W : Given 𝓤 H A) (same : (κs : Lfts 1) (s : RefT S) (n : N) (r : f .Answer) → ent 𝓤 (Done (now s) n r) (Left κs n s (at-last s (f .next r)) (f .number r))) where
-      makes : (n : Number) → Makes 𝓤 H A (rowOf n) (Is (rowOf n))
-      makes n = plain-makes 𝓤 H A W (n .X) (n .coded) (n .ty ∷ []) (n .own) (n .pure)
+    module _ (W : Given 𝓤 H A) (same : Same) where
+      made : (n : Number) → Makes 𝓤 H A (rowOf n) (Is (rowOf n))
+      made n = plain-makes 𝓤 H A W (n .X) (n .coded) (n .ty ∷ []) (n .own) (n .pure)
 
       -- what whoever holds an answer knows of its two fields
       numbered : (r : f .Answer) (vs : List Val) → Is (row D) r vs → Is Out (f .number r) (out-vals r)
@@ -171,34 +175,37 @@ module _ (f : Thin) where
         abbrev at : List Val × (List Val × Unit {0})
         at = (in-vals n, (vptr b o ∷ [], tt))
 
-        abbrev Post : Val → SProp 𝓤
-        Post = walkOf 𝓤 H A lent stayed lends .post (((κ, tt), (q, tt), tt, (n, (x, tt)), at), tt)
+        abbrev y : walkOf 𝓤 H A lent stayed lends .Ghost
+        y = (((κ, tt), (q, tt), tt, (n, (x, tt)), at), tt)
 
-        abbrev to-step : Step .Ghost
+        abbrev Post : Val → SProp 𝓤
+        Post = walkOf 𝓤 H A lent stayed lends .post y
+
+        abbrev to-step : Stepped .Ghost
         to-step = ((tt, tt, tt, (h, (n, tt)), (vals h, (in-vals n, tt))), tt)
 
         -- plain data owns only facts, so what the step asks is had for nothing
-        asked : Is R h (vals h) → ent 𝓤 (emp 𝓤) (Step .pre to-step)
+        asked : Is R h (vals h) → ent 𝓤 (emp 𝓤) (Stepped .pre to-step)
         asked was =
-            qed W [] ∵ nothing ! $ owned ! In (Is In) (makes (f .taken)) n _ took $ fjoin ! $ owned ! R (Is R) (LL.makes (f .state) (f .pure) 𝓤 H A) h _ was $ fjoin ! $
+            qed W [] ∵ nothing ! $ owned ! In (Is In) (made (f .taken)) n _ took $ fjoin ! $ owned ! R (Is R) (LL.makes (f .state) (f .pure) 𝓤 H A) h _ was $ fjoin ! $
             nothing ! $ join ! $ frame ! $ done !
 
         -- the step has no `&mut`, so what is said of last values is dropped
         said : (r : f .Answer) → ent 𝓤 (ensured 𝓤 H A by-value steps tt (h, (n, tt)) tt r) (Done h n r)
         said r = exE 𝓤 _ (λ ws. snd∗ 𝓤 (sem 𝓤 H A (lasts by-value tt (h, (n, tt)) ws)) (Done h n r))
 
-        abbrev left : f .Answer → List (Item 𝓤)
-        left r = ‵ (fobs γ (R .coded .code (f .next r))) ∷ ‵ (fbor κ (Body (mem R) b o γ)) ∷ ‵ (flft κ q) ∷ raw (Done h n r) ∷ []
+        abbrev at-end : f .Answer → List (Item 𝓤)
+        at-end r = ‵ (fobs γ (R .coded .code (f .next r))) ∷ ‵ (fbor κ (Body (mem R) b o γ)) ∷ ‵ (flft κ q) ∷ raw (Done h n r) ∷ []
 
-        exits : (r : f .Answer) → Is Out (f .number r) (out-vals r) → ent 𝓤 (⋆ 𝓤 H A (left r)) (Post (f .given .val (f .number r)))
+        exits : (r : f .Answer) → Is Out (f .number r) (out-vals r) → ent 𝓤 (⋆ 𝓤 H A (at-end r)) (Post (f .given .val (f .number r)))
         exits r gave =
-            qed W (left r) ∵
-            suffices ! _ (ends-at 𝓤 H A lent stayed lends W (((κ, tt), (q, tt), tt, (n, (x, tt)), at), tt) (f .given .val (f .number r)) (f .number r) (tt, (f .next r, tt)) (tt, (tt, tt))) $
-            feqI ! (List Val) (vptr b o ∷ []) (vptr b o ∷ []) refl $ fjoin3 ! $ nothing ! $ move ! (1 ∷ 0 ∷ []) $ fjoin ! $ owned ! In (Is In) (makes (f .taken)) n _ took $ fjoin ! $
-            owned ! Out (Is Out) (makes (f .given)) (f .number r) _ gave $ move ! (1 ∷ 0 ∷ []) $ join ! $ nothing ! $ move ! (2 ∷ 0 ∷ []) $ join ! $ join ! $ frame ! $
+            qed W (at-end r) ∵
+            suffices ! _ (ends-at 𝓤 H A lent stayed lends W y (f .given .val (f .number r)) (f .number r) (tt, (f .next r, tt)) (tt, (tt, tt))) $
+            feqI ! (List Val) (vptr b o ∷ []) (vptr b o ∷ []) refl $ fjoin3 ! $ nothing ! $ move ! (1 ∷ 0 ∷ []) $ fjoin ! $ owned ! In (Is In) (made (f .taken)) n _ took $ fjoin ! $
+            owned ! Out (Is Out) (made (f .given)) (f .number r) _ gave $ move ! (1 ∷ 0 ∷ []) $ join ! $ nothing ! $ move ! (2 ∷ 0 ∷ []) $ join ! $ join ! $ frame ! $
             use1 W (raw (Left (κ, tt) n x (at-last x (f .next r)) (f .number r))) (same (κ, tt) x n r) $ done !
 
-        module _ (C : Calls 𝓤 H) (Λ : Loops 𝓤 H) (fm : FmC 𝓤 H (W .laws) C) (known : Triple 𝓤 (C (f .step)) Step) where
+        module _ (C : Calls 𝓤 H) (Λ : Loops 𝓤 H) (fm : FmC 𝓤 H (W .laws) C) (known : Triple 𝓤 (C (f .step)) Stepped) where
           walk : ent 𝓤 (onEntry 𝓤 H A (lent .signature) (κ, tt) (q, tt) (n, (x, tt)) at) (WpFn 𝓤 H C Λ function (f .taken .val n ∷ vptr b o ∷ []) Post)
           walk =
               qed W ((‵ (flft κ q) ⊛ ‵ ftrue) ∷ ‵ (owns (In ∷ MutRef (named 0) κ R ∷ []) (n, (x, tt)) at) ∷ []) ∵
@@ -208,13 +215,13 @@ module _ (f : Thin) where
               params1 ! $ pass1 ! (init ! 6 refl (f .taken .lawful 𝓤 H A W .typed n _ took .0)) $ pass1 ! (init ! 4 refl (tt, tt)) $ pass0 ! $
               move ! (10 ∷ 11 ∷ 12 ∷ []) $ opens ! tt R {h = h} b o (λ vs. spelt ! R (Is R) (shows 𝓤 H A R) vals (LL.tells (f .state) (f .laws)) fullShare h vs b o $
               move ! (1 ∷ []) $ peeks ! R (Is R) (shows 𝓤 H A R) h (vals h) (λ was. drop ! $
-              -- [the state's cell; the open borrow; obs; auth; room for _4; …; room for _3; …; _2; …; _1; …; room for _0; …]
+              -- [the state's cell; the open borrow; obs; auth; room for _4; …; room for _3; …; _2; …; _1; …; room for _0; …]: the state is loaded, and the step is called
               assigns ! (of-opd ! (load ! (from ! (hop ! (look ! 8 refl) (stop !))) (look-raw ! 0 refl))) (from ! (stop !)) (init ! 6 refl (LL.lawful (f .state) (f .laws) 𝓤 H A W .typed h _ was .0)) $
-              use0 W (raw (Step .pre to-step)) (asked was) $
-              calls-at ! fm Step known to-step (and-then ! (load ! (from ! (stop !)) (look ! 7 refl)) (and-then ! (load ! (from ! (stop !)) (look ! 11 refl)) (no-more !))) (λ v.
+              use0 W (raw (Stepped .pre to-step)) (asked was) $
+              calls-at ! fm Stepped known to-step (and-then ! (load ! (from ! (stop !)) (look ! 7 refl)) (and-then ! (load ! (from ! (stop !)) (look ! 11 refl)) (no-more !))) (λ v.
               use1 W (later (some (λ (r : f .Answer). (‵ ftrue ⊛ ‵ (row D .own r (v ∷ []))) ⊛ raw (ensured 𝓤 H A by-value steps tt (h, (n, tt)) tt r)))) (id⊢ 𝓤 _) $ await ! tt $ pick ! (λ r.
               split ! $ move ! (1 ∷ []) $ use1 W (raw (Done h n r)) (said r) $ move ! (1 ∷ []) $ split ! $ drop ! $ peeks ! (row D) (Is (row D)) (shows 𝓤 H A (row D)) r (v ∷ []) (λ is. drop ! $
-              -- [what the step ensures; the state's cell; the open borrow; obs; auth; room for _4; …; _3; …; _2; …; _1; …; room for _0; …]
+              -- [what the step ensures; the state's cell; the open borrow; obs; auth; room for _4; …; _3; …; _2; …; _1; …; room for _0; …]: its answer lands, the next state is stored, and the number is the result
               land ! (from ! (stop !)) (init ! 5 refl (LL.lawful D D-laws 𝓤 H A W .typed r _ is .0)) $
               rewrite ! 5 (λ (u : Val). ‵ (fat fullShare (layout (shape D)) l₄ 0 u)) (ap only (LL.tells D D-laws r (v ∷ []) is)) refl $
               assigns ! (of-opd ! (load ! (from ! (fld ! refl (stop !))) (look-in ! 5 (sub ! 1 refl (whole !))))) (from ! (hop ! (look ! 9 refl) (stop !)))
@@ -226,7 +233,7 @@ module _ (f : Thin) where
               move ! (12 ∷ 13 ∷ []) $ free1 ! $ move ! (10 ∷ 11 ∷ []) $ free1 ! $ move ! (8 ∷ 9 ∷ []) $ free1 ! $ move ! (6 ∷ 7 ∷ []) $ free1 ! $ move ! (4 ∷ 5 ∷ []) $ free1 ! $ free0 ! $
               keep ! (0 ∷ 1 ∷ 2 ∷ 3 ∷ []) $ by ! (exits r (numbered r _ is))))))))))))
 
-      walks : (𝓣 : Tables 𝓤 H) → Triple 𝓤 (𝓣 .C (f .step)) Step → Meets 𝓤 H A (lent .signature) (WpFn 𝓤 H (𝓣 .C) (𝓣 .Λ) function) (closing 𝓤 H A lent lends)
+      walks : (𝓣 : Tables 𝓤 H) → Triple 𝓤 (𝓣 .C (f .step)) Stepped → Meets 𝓤 H A (lent .signature) (WpFn 𝓤 H (𝓣 .C) (𝓣 .Λ) function) (closing 𝓤 H A lent lends)
       walks 𝓣 known =
           let run = WpFn 𝓤 H (𝓣 .C) (𝓣 .Λ) function in
           walk-meets 𝓤 H A lent stayed W (goes-none 𝓤 H A W 1 (λ _. In) yes (λ κs y w. refl), (goes-ref 𝓤 H A W 1 0 tt (plain (λ _. R)), tt)) lends run (WpFn-mono 𝓤 H (W .laws) 𝓣 function)
@@ -236,10 +243,9 @@ module _ (f : Thin) where
   -- ---- the function that k means meets its contract, since the step meets its own
   module _ {M : Type 1} (𝓤 : URA M) (H : Heap 𝓤) (𝓜 : Model 𝓤 H) (𝓖 : GhostRules 𝓤 H) (𝓡 : Running 𝓤 H 𝓜) (env : Env) (k : Name) (Done : S → N → f .Answer → SProp 𝓤) (Left : Lfts 1 → N → RefT S → RefT S → f .given .X → SProp 𝓤) where
     pub in-place : Closed 𝓤 H (tables 𝓤 H 𝓜 𝓡 env .C) (tables 𝓤 H 𝓜 𝓡 env .Λ) k function
-        → ((κs : Lfts 1) (s : RefT S) (n : N) (r : f .Answer) → ent 𝓤 (Done (now s) n r) (Left κs n s (at-last s (f .next r)) (f .number r)))
-        → (step : Routine) → env (f .step) ≡ step → Triple 𝓤 (𝓡 .run step) (Step 𝓤 H (𝓖 .A) Done Left)
+        → Same 𝓤 H (𝓖 .A) Done Left → (step : Routine) → env (f .step) ≡ step → Triple 𝓤 (𝓡 .run step) (Stepped 𝓤 H (𝓖 .A) Done Left)
         → Meets 𝓤 H (𝓖 .A) (lent .signature) (tables 𝓤 H 𝓜 𝓡 env .C k) (closing 𝓤 H (𝓖 .A) lent (lends 𝓤 H (𝓖 .A) Done Left))
     unfolding tablesOf
     in-place closed same step calls met =
         entered 𝓤 H (tripleOf 𝓤 H (𝓖 .A) (lent .signature) (closing 𝓤 H (𝓖 .A) lent (lends 𝓤 H (𝓖 .A) Done Left))) (tables 𝓤 H 𝓜 𝓡 env .C) (tables 𝓤 H 𝓜 𝓡 env .Λ) k function closed
-        (walks 𝓤 H (𝓖 .A) Done Left (givenOf 𝓤 H 𝓜 𝓖) same (tablesOf 𝓤 H 𝓜 (tables 𝓤 H 𝓜 𝓡 env)) (cited 𝓤 H (Step 𝓤 H (𝓖 .A) Done Left) 𝓜 𝓡 env (f .step) step calls met))
+        (walks 𝓤 H (𝓖 .A) Done Left (givenOf 𝓤 H 𝓜 𝓖) same (tablesOf 𝓤 H 𝓜 (tables 𝓤 H 𝓜 𝓡 env)) (cited 𝓤 H (Stepped 𝓤 H (𝓖 .A) Done Left) 𝓜 𝓡 env (f .step) step calls met))
