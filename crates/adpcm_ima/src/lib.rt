@@ -1,4 +1,4 @@
-// One nibble of IMA ADPCM, decoded and encoded. A state goes in by value, and the next one comes back.
+// One nibble of IMA ADPCM, decoded and encoded. A state goes in by value, and the next one comes back; the two calls of `lent` are lent it.
 mod coded;
 mod lent;
 mod nibble;

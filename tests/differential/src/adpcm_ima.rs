@@ -1,4 +1,5 @@
-//! One nibble of IMA ADPCM, from every state: all 65,536 predictors with all 256 indices.
+//! One nibble of IMA ADPCM, from every state: all 65,536 predictors with all 256 indices. Each call is asked
+//! over C, and once more lent its state.
 //!
 //! The decoder's whole domain, 2^32 inputs, is compared in every run. The encoder's, 2^40, is for the
 //! exhaustive run; here it is asked about the samples at which an answer can go wrong by one, from
