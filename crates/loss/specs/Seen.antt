@@ -1,27 +1,26 @@
 -- What the code keeps while it looks. Assumes nothing.
 use mathlib.Core.Path.{_≡_}
 use mathlib.Core.Bool.{cond}
-use mathlib.Core.List.{List, [], _∷_}
-use mathlib.Core.Option.{Option, none, some}
-use Prim.Native.Nat.{ℕ, suc, _-_}
+use mathlib.Core.List.{List}
+use Prim.Native.Nat.{ℕ}
 use lib.Dec.{eqb}
-use lib.ListN.{length}
-use Rattle.loss.specs.Loss.{countOf, largest}
+use lib.IntN.{ℤ}
+use lib.ListN.{drop}
+use Rattle.loss.specs.Loss.{distances, countOf, largest}
 
--- A number, where there is a difference.
-abbrev pub whereDiffers : ℕ → ℕ → ℕ
-whereDiffers d x = cond (eqb d 0) 0 x
+-- What a place adds to the count.
+abbrev pub differing : ℕ → ℕ
+differing d = cond (eqb d 0) 0 1
 
--- How many places are left from the first that differs on, 0 if none differs; and which place that is of n.
-unfoldable pub leftOf : List ℕ → ℕ
-leftOf [] = 0
-leftOf (d ∷ ds) = cond (eqb d 0) (leftOf ds) (suc (length ds))
-
-abbrev pub placed : ℕ → ℕ → Option ℕ
-placed n left = cond (eqb left 0) none (some (n - left))
-
--- Three numbers that tell all of the differences.
-pub record Sees (ds : List ℕ) (count left most : ℕ) : Type 0 where
+-- Two numbers that tell how many places differ, and by how much at most.
+pub record Sees (ds : List ℕ) (count most : ℕ) : Type 0 where
   pub counts : count ≡ countOf ds
-  pub lefts : left ≡ leftOf ds
   pub tops : most ≡ largest ds
+
+-- The places from i on,
+abbrev pub rest : List ℤ → List ℤ → ℕ → List ℕ
+rest xs ys i = distances (drop i xs) (drop i ys)
+
+-- and how many are known to be alike, where so many differ of those up to the end.
+abbrev pub alikeTo : ℕ → ℕ → ℕ → ℕ
+alikeTo alike count end = cond (eqb count 0) end alike

@@ -2,11 +2,11 @@
 use num::larger;
 use num::lesser;
 ghost use mathlib.Core.Path.{_≡_};
-ghost use Prim.Native.Nat.{_<_, _≤_};
+ghost use Prim.Native.Nat.{_<_, _≤_, max};
 ghost use lib.ListN.{length};
 ghost use Rattle.loss.specs.Loss as Report;
-ghost use Rattle.loss.specs.Loss.{distances, placeOf, reported, lossReport};
-ghost use Rattle.loss.specs.Seen.{whereDiffers, placed, Sees};
+ghost use Rattle.loss.specs.Loss.{distances, firstFrom, firstOf, placeOf, reported, lossReport};
+ghost use Rattle.loss.specs.Seen.{differing, alikeTo, rest, Sees};
 
 // The first place that differs, counted from 0.
 pub enum First {
@@ -38,71 +38,110 @@ pub fn loss_report(before: &[i16], after: &[i16]) -> Loss
     Loss {
         refusal: 0,
         count: all.count,
-        first: place(n as u32, all.left),
+        first: first_from(before, after, all.alike),
         peak: capped(all.largest),
     }
 }
 
-// What was seen of the places: how many differ, how many are left from the first of those on, 0 if none does, and the largest difference.
-struct Seen {
+// What was seen of all places: how many differ, the largest difference, and so many places from the first on that are alike.
+struct All {
     count: u32,
-    left: u32,
     largest: u32,
+    alike: usize,
 }
 
-// Each number grows by a sum or to the larger of two, so no turn has a branch, and the compiler takes several places at once.
-fn look(before: &[i16], after: &[i16]) -> Seen
-    requires { ⌜ (length (now before) ≡ length (now after)) × (length (now before) < 4294967296) ⌝ }
-    ensures { λ r. ⌜ Sees (distances (now (before .entry)) (now (after .entry))) (r .count) (r .left) (r .largest) ⌝ }
+// Stretch by stretch. The first place that differs is not looked for here, but in the one stretch that has it.
+fn look(before: &[i16], after: &[i16]) -> All
+    requires { ⌜ (length (now before) ≡ length (now after)) × (length (now before) ≤ 131063) ⌝ }
+    ensures { λ r. ⌜ Sees (distances (now (before .entry)) (now (after .entry))) (r .count) (r .largest) × (firstFrom (r .alike) (rest (now (before .entry)) (now (after .entry)) (r .alike)) ≡ firstOf (distances (now (before .entry)) (now (after .entry)))) ⌝ }
 {
-    let n = before.len() as u32;
+    let n = before.len();
     let mut count = 0;
-    let mut left = 0;
+    let mut largest = 0;
+    let mut alike = 0;
+    let mut at = 0;
+    while at < n {
+        let end = lesser(at + 512, n);
+        let seen = stretch(&before[at..end], &after[at..end]);
+        count += seen.count as u32;
+        largest = larger(largest, seen.largest as u32);
+        alike = alike_to(alike, count, end);
+        at = end;
+    }
+    All {
+        count,
+        largest,
+        alike,
+    }
+}
+
+// What was seen of a stretch.
+struct Seen {
+    count: u16,
+    largest: u16,
+}
+
+// No turn has a branch, and all its numbers have the width of a sample, so the compiler takes as many places at once as it can.
+fn stretch(before: &[i16], after: &[i16]) -> Seen
+    requires { ⌜ (length (now before) ≡ length (now after)) × (length (now before) < 65536) ⌝ }
+    ensures { λ r. ⌜ Sees (distances (now (before .entry)) (now (after .entry))) (r .count) (r .largest) × (r .count ≤ length (now (before .entry))) ⌝ }
+{
+    let mut count = 0;
     let mut largest = 0;
     let mut i = 0;
     while i < before.len() {
         let d = distance(before[i], after[i]);
-        count += where_differs(d, 1);
-        left = larger(left, where_differs(d, n - i as u32));
-        largest = larger(largest, d);
+        count += differs(d);
+        largest = farther(largest, d);
         i += 1;
     }
-    Seen {
-        count,
-        left,
-        largest,
-    }
+    Seen { count, largest }
 }
 
 // The absolute difference of two samples.
-fn distance(x: i16, y: i16) -> u32
-    ensures { λ r. ⌜ (r ≡ Report.distance x y) × (r < 65536) ⌝ }
+fn distance(x: i16, y: i16) -> u16
+    ensures { λ r. ⌜ r ≡ Report.distance x y ⌝ }
 {
-    let difference = x as i32 - y as i32;
-    if difference < 0 {
-        (0 - difference) as u32
+    if x < y {
+        (y as i32 - x as i32) as u16
     } else {
-        difference as u32
+        (x as i32 - y as i32) as u16
     }
 }
 
-// A number, where there is a difference.
-fn where_differs(d: u32, x: u32) -> u32
-    ensures { λ r. ⌜ (r ≡ whereDiffers d x) × (r ≤ x) ⌝ }
+// 1, where there is a difference.
+fn differs(d: u16) -> u16
+    ensures { λ r. ⌜ (r ≡ differing d) × (r ≤ 1) ⌝ }
 {
-    if d == 0 { 0 } else { x }
+    if d == 0 { 0 } else { 1 }
 }
 
-// The first place that differs, of n, where so many are left from it on.
-fn place(n: u32, left: u32) -> First
-    requires { ⌜ left ≤ n ⌝ }
-    ensures { λ r. ⌜ placeOf r ≡ placed n left ⌝ }
+fn farther(a: u16, b: u16) -> u16
+    ensures { λ r. ⌜ r ≡ max a b ⌝ }
 {
-    if left == 0 {
-        First::Nowhere
-    } else {
-        First::At(n - left)
+    if a < b { b } else { a }
+}
+
+// As long as no place differs, all are alike up to here.
+fn alike_to(alike: usize, count: u32, end: usize) -> usize
+    ensures { λ r. ⌜ r ≡ alikeTo alike count end ⌝ }
+{
+    if count == 0 { end } else { alike }
+}
+
+// The first place that differs, from `start` on.
+fn first_from(before: &[i16], after: &[i16], start: usize) -> First
+    requires { ⌜ (length (now before) ≡ length (now after)) × (length (now before) < 4294967296) ⌝ }
+    ensures { λ r. ⌜ placeOf r ≡ firstFrom start (rest (now (before .entry)) (now (after .entry)) start) ⌝ }
+{
+    let mut place = start;
+    while place < before.len() {
+        if distance(before[place], after[place]) != 0 {
+            return First::At(place as u32);
+        }
+        place += 1;
     }
+    First::Nowhere
 }
 
 fn capped(d: u32) -> u16

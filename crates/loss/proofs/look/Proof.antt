@@ -1,45 +1,47 @@
--- `loss::look` meets its contract: each turn keeps what one place more shows, until all places are looked at. Assumes nothing.
-use mathlib.Core.Path.{ap₂, _∙_}
+-- `loss::look` meets its contract: each turn keeps what one stretch more shows, until all places are looked at. Assumes nothing.
 use Prim.Native.Nat.{_-_, _≤_}
 use native.Mathlib.Omega.{arith}
-use lib.IntN.{pos}
-use lib.ListN.{length, getD}
-use mir.Syntax.{w16}
-use mir.Val.{SFits}
-use mir.ValLaws.{toZ-ofZ}
+use lib.ListN.{length}
 use borrow.Author.Needs.{needs}
-use Rattle.loss.specs.Loss.{distance}
-use Rattle.loss.proofs.Kept.{Kept, none, one-more, all}
+use Rattle.loss.proofs.Kept.{Kept, Leads, none, begins, more, leads-on, all}
 use Rattle.loss.proofs.look.Statement.{statement}
 use Rattle.loss.proofs.look.Tie as tie
 
 abbrev Inv-loop : tie.InvT-loop
-Inv-loop before after n count₀ left₀ largest₀ i₀ count left largest i = Kept before after count left largest i × (count ≤ i) × (i ≤ length before)
+Inv-loop before after n count₀ largest₀ alike₀ at₀ count largest alike at =
+    Kept before after count largest at
+    × Leads before after count alike at
+    × (count ≤ at)
+    × (at ≤ length before)
 
 abbrev μ-loop : tie.MeasureT-loop
-μ-loop before after n count₀ left₀ largest₀ i₀ count left largest i = length before - i
+μ-loop before after n count₀ largest₀ alike₀ at₀ count largest alike at = length before - at
 
 loop-holds : tie.Need-loop-holds Inv-loop μ-loop
-loop-holds c = (none _ _, omega arith, omega arith)
+loop-holds c = (none _ _, begins _ _, omega arith, omega arith)
 
 loop-again : tie.Need-loop-again Inv-loop μ-loop
 loop-again c =
-    let at = c .before .before .before .before .before .before .before .before in
-    let i = at .loop .i in
+    let at = c .before .before .before .before .before .before .before .before .before in
     let a = at .before .args in
-    let f : SFits w16 (getD (a .before .now) i (pos 0)) = search needs in
-    let g : SFits w16 (getD (a .after .now) i (pos 0)) = search needs in
-    let d-is = c .before .before .before .before .distance .ensures .0 ∙ ap₂ distance (toZ-ofZ w16 _ f) (toZ-ofZ w16 _ g) in
-    let one-is = c .before .before .before .where-differs .ensures .0 in
-    let more-is = c .before .before .where-differs2 .ensures .0 in
-    let kept = one-more (a .before .now) (a .after .now) (at .before .pre .0) i (search needs) (at .loop .inv .0) in
-    (kept d-is one-is more-is (c .before .larger .ensures) (c .larger2 .ensures), search needs, search needs)
+    let xs = a .before .now in
+    let ys = a .after .now in
+    let end = c .before .before .before .before .before .before .before .lesser .result in
+    let seen = c .before .before .before .before .stretch .ensures in
+    let same = at .before .pre .0 in
+    let within : at .loop .at ≤ end = search needs in
+    let few : end ≤ length xs = search needs in (
+      more xs ys same (at .loop .at) end within few (at .loop .inv .0) (seen .0) (c .before .larger .ensures),
+      leads-on xs ys same (at .loop .at) end within few (at .loop .inv .1) (seen .0) (c .alike-to .ensures),
+      search needs,
+      few,
+    )
 
 returns : tie.Need-returns Inv-loop μ-loop
 returns c =
     let at = c .before in
     let a = at .before .args in
-    all (a .before .now) (a .after .now) (at .before .pre .0) (at .loop .i) (search needs) (at .loop .inv .0)
+    (all (a .before .now) (a .after .now) (at .before .pre .0) (at .loop .at) (search needs) (at .loop .inv .0), at .loop .inv .1 .first)
 
 pub look-spec : {M : Type 1} → statement M
 look-spec =
@@ -47,21 +49,23 @@ look-spec =
     (tie.spec
     Inv-loop
     μ-loop
-    (λ c. search needs)
     loop-holds
     (λ c. search needs)
+    (λ c κs. search needs)
+    (λ c. search needs)
+    (λ c. search needs)
+    (λ c. search needs)
+    (λ c. search needs)
+    (λ c. search needs)
+    (λ c. search needs)
+    (λ c. search needs)
+    (λ c. search needs)
+    (λ c κs. search needs)
     (λ c. search needs)
     (λ c. search needs)
     (λ c. search needs)
     (λ c κs. search needs)
     (λ c κs. search needs)
-    (λ c. search needs)
-    (λ c. search needs)
-    (λ c. search needs)
-    (λ c κs. search needs)
-    (λ c κs. search needs)
-    (λ c κs. search needs)
-    (λ c. search needs)
     (λ c. search needs)
     loop-again
     returns)

@@ -7,8 +7,8 @@ use native.Mathlib.Omega.{arith}
 use lib.ListN.{length}
 use borrow.Author.Needs.{needs}
 use borrow.Author.Tests.{ltb-true, ltb-false, lt-leb, eq-eqb, ne-eqb}
-use Rattle.loss.specs.Loss.{distances, lossReport}
-use Rattle.loss.proofs.Places.{left-le, distances-length, reports}
+use Rattle.loss.specs.Loss.{lossReport}
+use Rattle.loss.proofs.Places.{reports}
 use Rattle.loss.proofs.loss_report.Statement.{statement}
 use Rattle.loss.proofs.loss_report.Tie as tie
 
@@ -29,24 +29,19 @@ same c = omega arith
 few : (c : tie.Else2) → length (c .before .before .args .before .now) ≤ 131063
 few c = let n = length (c .before .before .args .before .now) in omega (arith, ltb-false _ n (c .if2 .left))
 
-place-requires : tie.Need-place-requires
-place-requires c κs =
-    let a = c .before .before .before .args in
-    omega (arith, c .look .ensures .lefts, left-le (distances (a .before .now) (a .after .now)), distances-length (a .before .now) (a .after .now) (same (c .before)))
-
 returns-2 : tie.Need-returns-2
 returns-2 c =
     let s = c .before .before .before in
     let a = s .before .before .args in
-    reports (a .before .now) (a .after .now) (same s) (few s) (c .before .before .look .ensures) (c .before .place .ensures) (c .capped .ensures)
+    let all = c .before .before .look in
+    reports (a .before .now) (a .after .now) (same s) (few s) (all .result .alike) (all .ensures .0) (c .before .first-from .ensures) (all .ensures .1) (c .capped .ensures)
 
 pub loss-report-spec : {M : Type 1} → statement M
 loss-report-spec =
     tie.close
     (tie.spec
     returns
-    (λ c κs. (same c, omega (arith, few c)))
-    (λ c. search needs)
-    place-requires
+    (λ c κs. (same c, few c))
+    (λ c κs. (same (c .before), omega (arith, few (c .before))))
     (λ c κs. search needs)
     returns-2)
