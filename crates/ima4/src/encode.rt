@@ -27,11 +27,10 @@ pub fn encode_adpcm_ima_ima4(samples: &[i16], state: AdpcmImaState, out_buf: &mu
     let mut wide = Wide::of(lowered(state));
     let mut k = 0;
     while k < 32 {
-        let low = wide.nibble(&steps, samples[2 * k]);
-        let between = wide.moved(&steps, low);
-        let high = between.nibble(&steps, samples[2 * k + 1]);
-        wide = between.moved(&steps, high);
-        out_buf[k + 2] = pack(low, high);
+        let low = wide.coded(&steps, samples[2 * k]);
+        let high = low.next.coded(&steps, samples[2 * k + 1]);
+        wide = high.next;
+        out_buf[k + 2] = pack(low.nibble, high.nibble);
         k += 1;
     }
     Answer {

@@ -61,22 +61,24 @@ loop-holds c =
 loop-again : tie.Need-loop-again Inv-loop μ-loop
 unfolding imaSteps
 loop-again c =
-    let at = c .before .before .before .before .before .before .before .before .before .before .before .before in
+    let at = c .before .before .before .before .before .before .before .before .before in
     let inv = at .loop .inv in
     let k = at .loop .k in
     let w = wideOf (at .loop .wide) in
     let out = at .loop .out-buf in
     let samples = at .before .before .before .before .before .before .before .args .samples .now in
-    let low = c .before .before .before .before .before .before .before .before .nibble in
-    let first = c .before .before .before .before .before .before .moved in
-    let high = c .before .before .before .nibble2 in
-    let second = c .before .moved2 in
-    let h : k < 32 = c .before .before .before .before .before .before .before .before .before .before .before .loop-test .taken in
-    let e : c .pack .result ≡ 16 * high .result + low .result = c .pack .ensures ∙ omega (arith, low .ensures .1, high .ensures .1) in
-    let f : SFits w16 (getD samples (2 * k) (pos 0)) = search (needs, c .before .before .before .before .before .before .before .before .before .nibble-arg .given) in
-    let g : SFits w16 (getD samples (2 * k + 1) (pos 0)) = search (needs, c .before .before .before .before .nibble-arg2 .given) in
-    let turn = one-byte imaSteps w (wideOf (first .result)) (wideOf (second .result)) samples out k (low .result) (high .result) (low .ensures .0 ∙ ap (emitted sixteen imaSteps w) (toZ-ofZ w16 _ f)) (first .ensures) (high .ensures .0 ∙ ap (emitted sixteen imaSteps (wideOf (first .result))) (toZ-ofZ w16 _ g)) (second .ensures) (omega (arith, inv)) (omega (arith, inv)) in
-    (rw e (turn ∙ inv .0), inv .1, length-set out (k + 2) (c .pack .result) ∙ inv .2, omega (arith, h), moved-lt imaSteps (wideOf (first .result)) (wideOf (second .result)) _ (second .ensures))
+    let low = c .before .before .before .before .before .coded in
+    let high = c .before .before .coded2 in
+    let h : k < 32 = c .before .before .before .before .before .before .before .before .loop-test .taken in
+    let (low-is, low-below, between) = low .ensures in
+    let (high-is, high-below, behind) = high .ensures in
+    let e : c .pack .result ≡ 16 * high .result .nibble + low .result .nibble = c .pack .ensures ∙ omega (arith, low-below, high-below) in
+    let f : SFits w16 (getD samples (2 * k) (pos 0)) = search (needs, c .before .before .before .before .before .before .coded-arg .given) in
+    let g : SFits w16 (getD samples (2 * k + 1) (pos 0)) = search (needs, c .before .before .before .coded-arg2 .given) in
+    let v = wideOf (low .result .next) in
+    let u = wideOf (high .result .next) in
+    let turn = one-byte imaSteps w v u samples out k (low .result .nibble) (high .result .nibble) (low-is ∙ ap (emitted sixteen imaSteps w) (toZ-ofZ w16 _ f)) between (high-is ∙ ap (emitted sixteen imaSteps v) (toZ-ofZ w16 _ g)) behind (omega (arith, inv)) (omega (arith, inv)) in
+    (rw e (turn ∙ inv .0), inv .1, length-set out (k + 2) (c .pack .result) ∙ inv .2, omega (arith, h), moved-lt imaSteps v u _ behind)
 
 -- where the loop ends
 ends : (c : tie.After-loop Inv-loop μ-loop) → let of = c .before .before in let s = of .before .before .before in
@@ -131,12 +133,10 @@ encode-adpcm-ima-ima4-spec =
     (λ c. search needs)
     (λ c. search needs)
     (λ c κs. search needs)
-    (λ c κs. search needs)
     (λ c. search needs)
     (λ c. search needs)
     (λ c. search needs)
     (λ c. search needs)
-    (λ c κs. search needs)
     (λ c κs. search needs)
     (λ c κs. search needs)
     (λ c. search needs)
