@@ -1,0 +1,165 @@
+/* The C interface of Sprettuhol, for C99 and later, and for C++11 and later.
+ *
+ * Sprettuhol codes speech by the mu-law and A-law of G.711 and by IMA ADPCM: single nibbles, runs of ima4
+ * blocks, and MS blocks (WAV format 0x0011). It repacks MS blocks, and reports what differs between two
+ * runs of samples. Every function is proved to meet its contract; docs/PROMISES.md has the promises.
+ *
+ * From the top of the repository, a program is compiled and linked by
+ *
+ *     cc -Iinclude -c program.c -o program.o
+ *     cc program.o -Ltarget/staticlib -lsprettuhol -o program
+ *
+ * What holds for all calls:
+ *
+ * - Every call ends. Whatever the values and the lengths are, it does what it says, or refuses by a number.
+ * - A refusal changes nothing: buffers, states and all other numbers hold what they held.
+ * - Nothing is allocated, nothing is kept from one call to the next, nothing is locked, and nothing of the
+ *   process is touched but what is passed, and the stack. So several threads may call at once, each with
+ *   buffers and numbers of its own to write to. What is only read they may share.
+ *
+ * What the caller owes, and no library can test:
+ *
+ * - A pointer x that goes with a length x_len points to at least that many elements. Any other points to
+ *   one number; but the two arrays of spr_encode_ms have two elements each, with one channel too.
+ * - Every pointer is aligned for its type.
+ * - No pointer is null, not even where the length is 0: the compiler may count on it.
+ * - What is behind a pointer that is not to const overlaps with nothing else that is passed, and no other
+ *   thread uses it during the call, even if the call is refused: a state may then be stored as it was.
+ */
+#ifndef SPRETTUHOL_H
+#define SPRETTUHOL_H
+
+#include <stddef.h>
+#include <stdint.h>
+
+/* What the calls that can refuse return. Each number is given for its cause alone, and always then; the
+ * channel number is tested before the lengths. */
+#define SPR_DONE 0
+#define SPR_REFUSED_CHANNELS 1 /* MS: the channel number is not 1 or 2 */
+#define SPR_REFUSED_LENGTHS 2  /* MS, loss: a length is not allowed, or two do not fit each other */
+#define SPR_REFUSED_BLOCKS 3   /* ima4: not 34 bytes and 64 samples a block, or over 1,024 blocks */
+
+#define SPR_NOWHERE UINT32_MAX /* spr_loss: there is no first place that differs */
+
+#define SPR_IMA4_BLOCK_BYTES 34
+#define SPR_IMA4_BLOCK_SAMPLES 64
+#define SPR_IMA4_MOST_BLOCKS 1024    /* of a run */
+#define SPR_MS_MOST_BYTES 65535      /* of a block */
+#define SPR_LOSS_MOST_SAMPLES 131063 /* of a run; as many as the longest MS block has */
+
+/* How many samples an MS block has, those of both channels together: 2n-7 for one channel and a length n
+ * of 4 to 65,535, 2n-14 for two channels and one of 8 to 65,528 that is divisible by 8. It is 0 where the
+ * calls refuse the channel number or the length. It is a constant if both arguments are, and evaluates
+ * them more than once. */
+#define SPR_MS_SAMPLES(channels, block_len)                                                              \
+    ((size_t)(block_len) < 4 * (size_t)(channels) || (size_t)(block_len) / (SPR_MS_MOST_BYTES + 1) != 0  \
+         ? (size_t)0                                                                                     \
+     : (channels) == 1 || ((channels) == 2 && (size_t)(block_len) % 8 == 0)                              \
+         ? 2 * (size_t)(block_len) - 7 * (size_t)(channels)                                              \
+         : (size_t)0)
+
+#ifdef __cplusplus
+extern "C" {
+#endif
+
+/* G.711. These four take every value, and refuse nothing. */
+
+/* The sample that a mu-law code stands for. Of 0x7f and of 0xff it is 0. */
+int16_t spr_decode_ulaw(uint8_t encoded);
+
+/* The mu-law code of a sample. Those above 32,635 decode to 32,124, and those below -32,636 to -32,124. */
+uint8_t spr_encode_ulaw(int16_t linear);
+
+/* The sample that an A-law code stands for, which is never 0. */
+int16_t spr_decode_alaw(uint8_t encoded);
+
+/* The A-law code of a sample. That of 0 decodes to 8. */
+uint8_t spr_encode_alaw(int16_t linear);
+
+/* IMA ADPCM. A state is two numbers, the predictor, which is the last sample, and the step index. A decoder
+ * or an encoder starts from 0 and 0, and goes on from the state that the call before has left. */
+
+/* One nibble to the sample that is returned. Reads the state and writes the next one: the predictor is then
+ * the sample, and the index 0 to 88. Of `nibble` the low four bits count, an index above 88 is read as 88,
+ * and nothing is refused. */
+int16_t spr_decode_adpcm_ima(uint8_t nibble, int16_t *predictor, uint8_t *step_index);
+
+/* One sample to the nibble that is returned, 0 to 15. Reads the state and writes the next one, which is what
+ * decoding the nibble makes of it. An index above 88 is read as 88, and nothing is refused. */
+uint8_t spr_encode_adpcm_ima(int16_t sample, int16_t *predictor, uint8_t *step_index);
+
+/* A run of 0 to 1,024 ima4 blocks to samples. A block is 34 bytes, two of header and 64 nibbles, the low half
+ * of a byte first. The header is, high byte first, the top nine bits of a predictor and seven of an index.
+ *
+ * Reads `bytes` and the state. Writes all of `samples`, and the state behind the last block: a run may be cut
+ * at any block's edge, if the second part is decoded from the state that the first has left.
+ *
+ * At each block the state is kept, if its index equals the header's, which is lowered to 88 if above, and its
+ * predictor is within 127 of the header's. Else both are taken from the header. The state's own index is not
+ * lowered first, so one above 88 is never kept. Where there are no blocks the state stays as it was given.
+ *
+ * SPR_REFUSED_BLOCKS: `bytes_len` is not 34 for each block, or `samples_len` not 64, or there are over 1,024
+ * blocks. Then neither `samples` nor the state changes. */
+uint8_t spr_decode_ima4(const uint8_t *bytes, size_t bytes_len, int16_t *predictor, uint8_t *step_index,
+                        int16_t *samples, size_t samples_len);
+
+/* Samples to a run of 0 to 1,024 ima4 blocks.
+ *
+ * Reads `samples` and the state. Writes all of `bytes`, and the state behind the last sample: a run may be cut
+ * as in decoding. An index above 88 is lowered to 88 before the first header is written. Where there are no
+ * blocks the state stays as it was given.
+ *
+ * SPR_REFUSED_BLOCKS: as in decoding. Then neither `bytes` nor the state changes. */
+uint8_t spr_encode_ima4(const int16_t *samples, size_t samples_len, int16_t *predictor, uint8_t *step_index,
+                        uint8_t *bytes, size_t bytes_len);
+
+/* One MS block to samples; SPR_MS_SAMPLES says which lengths there are, and how many samples. For each channel
+ * there is a header of four bytes: the predictor, low byte first, the index, and a byte that is ignored. Then
+ * come the nibbles, the low half of a byte first; of two channels four bytes left, four bytes right, and so on.
+ * Samples of two channels are interleaved, the left one first.
+ *
+ * Reads `block` and writes all of `samples`. Each channel starts from its header, whose predictor is the first
+ * sample; an index above 88 is read as 88. No state goes in or comes back: a block decodes by itself.
+ *
+ * SPR_REFUSED_CHANNELS: `channels` is not 1 or 2. SPR_REFUSED_LENGTHS: `block_len` is not allowed, or
+ * `samples_len` does not fit it. Then `samples` does not change. */
+uint8_t spr_decode_ms(uint8_t channels, const uint8_t *block, size_t block_len, int16_t *samples,
+                      size_t samples_len);
+
+/* Samples to one MS block.
+ *
+ * Reads `samples` and the index of each channel; the predictors that are passed do not matter, for the first
+ * sample of a channel takes the place of its predictor. Writes all of `block`, and the states behind the last
+ * samples. The header has the index as it is given, even above 88, and a fourth byte of 0. The first nibble
+ * lowers such an index; a block of one sample for each channel has none, and hands the index back as given. With
+ * one channel the second elements of both arrays come back as they went in.
+ *
+ * SPR_REFUSED_CHANNELS and SPR_REFUSED_LENGTHS: as in decoding. Then neither `block` nor a state changes. */
+uint8_t spr_encode_ms(uint8_t channels, const int16_t *samples, size_t samples_len, int16_t predictors[2],
+                      uint8_t step_indices[2], uint8_t *block, size_t block_len);
+
+/* An MS block, decoded and encoded again, from the indices of its own header, each above 88 taken as 88.
+ *
+ * Reads `block`. Writes all of `repacked`, and to `changed` 1 if any byte differs from the block's, else 0.
+ * Repacking what was repacked changes nothing.
+ *
+ * SPR_REFUSED_CHANNELS: `channels` is not 1 or 2. SPR_REFUSED_LENGTHS: `block_len` is not allowed, or
+ * `repacked_len` is another. Then neither `repacked` nor `changed` changes. */
+uint8_t spr_repack_ms(uint8_t channels, const uint8_t *block, size_t block_len, uint8_t *repacked,
+                      size_t repacked_len, uint8_t *changed);
+
+/* What differs between two runs of equal length, 0 to 131,063 samples.
+ *
+ * Reads both runs, which may be one. Writes to `count` how many places differ, to `first` the first of them,
+ * counted from 0, or SPR_NOWHERE, and to `peak` the largest absolute difference, 0 if there is none, and 32,767
+ * if it is above that.
+ *
+ * SPR_REFUSED_LENGTHS: the lengths differ, or are above 131,063. Then none of the three numbers changes. */
+uint8_t spr_loss(const int16_t *before, size_t before_len, const int16_t *after, size_t after_len,
+                 uint32_t *count, uint32_t *first, uint16_t *peak);
+
+#ifdef __cplusplus
+}
+#endif
+
+#endif
