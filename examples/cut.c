@@ -1,0 +1,58 @@
+/* Three ima4 blocks are encoded as one run, and the run is decoded in two parts. If the decoder's state goes
+ * over the cut, no sample moves. If the second part starts from a zeroed state, samples move, for a block's
+ * header has no room for the low seven bits of the predictor. */
+#include <assert.h>
+#include <stdio.h>
+
+#include "sprettuhol.h"
+
+#define BLOCKS 3
+#define SAMPLES (BLOCKS * SPR_IMA4_BLOCK_SAMPLES)
+
+struct state {
+    int16_t predictor;
+    uint8_t step_index;
+};
+
+/* A made-up vowel: every 60 samples a pulse, which rings on and dies away. */
+static void speak(int16_t samples[SAMPLES])
+{
+    int last = 0, before = 0;
+    for (int k = 0; k < SAMPLES; k++) {
+        int next = (28 * last - 15 * before) / 16 + (k % 60 == 0 ? 2500 : 0);
+        before = last;
+        last = next;
+        samples[k] = (int16_t)next;
+    }
+}
+
+static struct state decode(const uint8_t *bytes, size_t blocks, struct state from, int16_t *samples)
+{
+    uint8_t refusal = spr_decode_ima4(bytes, blocks * SPR_IMA4_BLOCK_BYTES, &from.predictor, &from.step_index,
+                                      samples, blocks * SPR_IMA4_BLOCK_SAMPLES);
+    assert(refusal == SPR_DONE);
+    return from;
+}
+
+int main(void)
+{
+    const struct state zero = {0, 0};
+    struct state end = zero;
+    int16_t spoken[SAMPLES], whole[SAMPLES], parts[SAMPLES];
+    uint8_t bytes[BLOCKS * SPR_IMA4_BLOCK_BYTES];
+    speak(spoken);
+    uint8_t refusal = spr_encode_ima4(spoken, SAMPLES, &end.predictor, &end.step_index, bytes, sizeof bytes);
+    assert(refusal == SPR_DONE);
+    decode(bytes, BLOCKS, zero, whole);
+
+    for (int carry = 1; carry >= 0; carry--) {
+        uint32_t moved, first;
+        uint16_t peak;
+        struct state cut = decode(bytes, 1, zero, parts);
+        decode(bytes + SPR_IMA4_BLOCK_BYTES, BLOCKS - 1, carry ? cut : zero, parts + SPR_IMA4_BLOCK_SAMPLES);
+        refusal = spr_loss(whole, SAMPLES, parts, SAMPLES, &moved, &first, &peak);
+        assert(refusal == SPR_DONE && (moved == 0) == carry);
+        printf("state %s: %u of %d samples moved\n", carry ? "carried" : "zeroed", (unsigned)moved, SAMPLES);
+    }
+    return 0;
+}
