@@ -1,0 +1,323 @@
+/* Checks every sentence of include/sprettuhol.h that a program can check. It prints how many checks there
+ * were, or the line of the first that fails, with the line of the table's row that it was about. */
+#include "checks.h"
+#include "rules.h"
+
+static void laws(void)
+{
+    static const struct {
+        int line, sample, mu, of_mu, a, of_a;
+    } rows[] = {
+        {__LINE__, 0, 0xff, 0, 0xd5, 8},
+        {__LINE__, -4, 0x7f, 0, 0x55, -8},
+        {__LINE__, 1000, 0xce, 988, 0xfa, 1008},
+        {__LINE__, -1000, 0x4e, -988, 0x7a, -1008},
+        {__LINE__, 32767, 0x80, 32124, 0xaa, 32256},
+        {__LINE__, -32768, 0x00, -32124, 0x2a, -32256},
+    };
+    FOR_EACH(rows) {
+        const int16_t sample = (int16_t)rows[k].sample;
+        CHECK(spr_encode_ulaw(sample) == rows[k].mu && spr_decode_ulaw((uint8_t)rows[k].mu) == rows[k].of_mu);
+        CHECK(spr_encode_alaw(sample) == rows[k].a && spr_decode_alaw((uint8_t)rows[k].a) == rows[k].of_a);
+    }
+    for (row = 0; row < 256; row++) {
+        CHECK((spr_decode_ulaw((uint8_t)row) == 0) == (row == 0x7f || row == 0xff));
+        CHECK(spr_decode_alaw((uint8_t)row) != 0);
+    }
+    for (row = 32636; row < 32768; row++) {
+        CHECK(spr_decode_ulaw(spr_encode_ulaw((int16_t)row)) == 32124);
+        CHECK(spr_decode_ulaw(spr_encode_ulaw((int16_t)(-row - 1))) == -32124);
+    }
+}
+
+static void nibbles(void)
+{
+    static const struct {
+        int line, encode, predictor, index, in, out, next, next_index;
+    } rows[] = {
+        {__LINE__, 0, 0, 0, 7, 11, 11, 8},
+        {__LINE__, 0, 0, 0, 15, -11, -11, 8},
+        {__LINE__, 0, 0, 0, 8, 0, 0, 0},
+        {__LINE__, 0, 0, 255, 0, 4095, 4095, 87},
+        {__LINE__, 0, 0, 88, 7, 32767, 32767, 88},
+        {__LINE__, 1, 0, 0, 0, 0, 0, 0},
+        {__LINE__, 1, 0, 0, -1, 9, -1, 0},
+        {__LINE__, 1, 0, 0, 32767, 7, 11, 8},
+        {__LINE__, 1, 32758, 0, 32767, 5, 32766, 4},
+    };
+    FOR_EACH(rows) {
+        int16_t *p = predictors + 1;
+        uint8_t *i = indices + 1;
+        fill();
+        *p = (int16_t)rows[k].predictor, *i = (uint8_t)rows[k].index;
+        CHECK(rows[k].out == (rows[k].encode ? spr_encode_adpcm_ima((int16_t)rows[k].in, p, i)
+                                             : spr_decode_adpcm_ima((uint8_t)rows[k].in, p, i)));
+        CHECK(*p == rows[k].next && *i == rows[k].next_index && stay_but(1));
+    }
+}
+
+/* All bytes at all indices: of these only the low four bits count, and of those only what is up to 88. */
+static void all_nibbles(void)
+{
+    for (row = 0; row < 256 * 256; row++) {
+        const int16_t from = given_samples[row], x = given_samples[row + 1];
+        const uint8_t byte = (uint8_t)(row % 256), raw = (uint8_t)(row / 256), low = raw < 88 ? raw : 88;
+        int16_t p = from, q = from;
+        uint8_t i = raw, j = low;
+        const int16_t out = spr_decode_adpcm_ima(byte, &p, &i);
+        CHECK(out == p && i <= 88);
+        CHECK(out == spr_decode_adpcm_ima(byte & 15, &q, &j) && p == q && i == j);
+        p = q = from, i = raw, j = low;
+        const uint8_t nibble = spr_encode_adpcm_ima(x, &p, &i);
+        CHECK(nibble <= 15 && nibble == spr_encode_adpcm_ima(x, &q, &j) && p == q && i == j);
+        q = from, j = low;
+        CHECK(spr_decode_adpcm_ima(nibble, &q, &j) == p && p == q && i == j);
+    }
+}
+
+static void ima4_lengths(void)
+{
+    const size_t n = SPR_IMA4_BLOCK_BYTES, m = SPR_IMA4_BLOCK_SAMPLES, most = SPR_IMA4_MOST_BLOCKS;
+    const struct {
+        int line, number;
+        size_t n, m;
+    } rows[] = {
+        {__LINE__, SPR_DONE, 0, 0},
+        {__LINE__, SPR_DONE, n, m},
+        {__LINE__, SPR_DONE, n * most, m * most},
+        {__LINE__, SPR_REFUSED_BLOCKS, n * (most + 1), m * (most + 1)},
+        {__LINE__, SPR_REFUSED_BLOCKS, n - 1, m},
+        {__LINE__, SPR_REFUSED_BLOCKS, n + 1, m},
+        {__LINE__, SPR_REFUSED_BLOCKS, n, m - 1},
+        {__LINE__, SPR_REFUSED_BLOCKS, n, m + 1},
+        {__LINE__, SPR_REFUSED_BLOCKS, n, 0},
+        {__LINE__, SPR_REFUSED_BLOCKS, 0, m},
+        {__LINE__, SPR_REFUSED_BLOCKS, 2 * n, m},
+    };
+    FOR_EACH(rows) {
+        const int taken = rows[k].number == SPR_DONE, moves = taken && rows[k].n > 0;
+        int16_t *p = predictors + 1;
+        uint8_t *i = indices + 1;
+        fill();
+        CHECK(spr_decode_ima4(given_bytes, rows[k].n, p, i, samples, rows[k].m) == rows[k].number);
+        CHECK(kept(0, taken ? rows[k].m : 0) && stay_but(1) && stay_but(0) == !moves);
+        fill();
+        CHECK(spr_encode_ima4(given_samples, rows[k].m, p, i, bytes, rows[k].n) == rows[k].number);
+        CHECK(kept(taken ? rows[k].n : 0, 0) && stay_but(1) && stay_but(0) == !moves);
+    }
+}
+
+/* The first sample of a block whose bytes, but for the second of the header, are 0. */
+static void ima4_headers(void)
+{
+    static const struct {
+        int line, header, predictor, index, first;
+    } rows[] = {
+        {__LINE__, 0, 100, 0, 100},      {__LINE__, 0, 127, 0, 127},      {__LINE__, 0, 128, 0, 0},
+        {__LINE__, 0, -127, 0, -127},    {__LINE__, 0, -128, 0, 0},       {__LINE__, 88, 100, 88, 4195},
+        {__LINE__, 88, 100, 200, 4095},  {__LINE__, 127, 100, 88, 4195},  {__LINE__, 127, 100, 127, 4095},
+    };
+    FOR_EACH(rows) {
+        const uint8_t block[34] = {0, (uint8_t)rows[k].header};
+        int16_t p = (int16_t)rows[k].predictor, q = p;
+        uint8_t i = (uint8_t)rows[k].index, j = i;
+        CHECK(spr_decode_ima4(block, 34, &p, &i, samples, 64) == SPR_DONE && samples[0] == rows[k].first);
+        ima4_decoded(block, 1, &q, &j);
+        CHECK(p == q && i == j && (rows[k].header > 0 || samples[63] == rows[k].first));
+    }
+}
+
+/* 9 blocks that were encoded, and 9 of noise, whole and cut. */
+static void ima4_runs(void)
+{
+    for (row = 0; row < 256; row++) {
+        const uint8_t from = (uint8_t)row;
+        int16_t p = 77, q = 77;
+        uint8_t i = from, j = from;
+        CHECK(spr_encode_ima4(given_samples, 64 * 9, &p, &i, bytes, 34 * 9) == SPR_DONE);
+        ima4_encoded(9, &q, &j);
+        CHECK(p == q && i == j);
+        p = 77, i = from;
+        CHECK(spr_encode_ima4(given_samples, 64 * 4, &p, &i, bytes + 34 * 9, 34 * 4) == SPR_DONE);
+        CHECK(spr_encode_ima4(given_samples + 64 * 4, 64 * 5, &p, &i, bytes + 34 * 13, 34 * 5) == SPR_DONE);
+        CHECK(memcmp(bytes, bytes + 34 * 9, 34 * 9) == 0 && p == q && i == j);
+        memcpy(bytes + 34 * 9, given_bytes, 34 * 9);
+        p = q = 77, i = j = from;
+        CHECK(spr_decode_ima4(bytes, 34 * 18, &p, &i, samples, 64 * 18) == SPR_DONE);
+        ima4_decoded(bytes, 18, &q, &j);
+        CHECK(p == q && i == j);
+        p = 77, i = from;
+        CHECK(spr_decode_ima4(bytes, 34 * 5, &p, &i, samples + 64 * 18, 64 * 5) == SPR_DONE);
+        CHECK(spr_decode_ima4(bytes + 34 * 5, 34 * 13, &p, &i, samples + 64 * 23, 64 * 13) == SPR_DONE);
+        CHECK(memcmp(samples, samples + 64 * 18, 64 * 18 * sizeof *samples) == 0 && p == q && i == j);
+    }
+}
+
+/* Both MS calls on given bytes and samples, of lengths that may fit. */
+static void ms_call(uint8_t channels, size_t n, size_t m, int number)
+{
+    const int taken = number == SPR_DONE;
+    fill();
+    CHECK(spr_decode_ms(channels, given_bytes, n, samples, m) == number);
+    CHECK(kept(0, taken ? m : 0));
+    if (taken)
+        ms_decoded(channels, m);
+    fill();
+    CHECK(spr_encode_ms(channels, given_samples, m, predictors + 1, indices + 1, bytes, n) == number);
+    CHECK(kept(taken ? n : 0, 0) && stay_but(taken ? channels : 0));
+    if (taken)
+        ms_encoded(channels, m);
+}
+
+static void ms_lengths(void)
+{
+    static const struct {
+        int line, number, channels;
+        size_t n, m;
+    } rows[] = {
+        {__LINE__, SPR_REFUSED_LENGTHS, 1, 0, 0},        {__LINE__, SPR_REFUSED_LENGTHS, 1, 3, 0},
+        {__LINE__, SPR_DONE, 1, 4, 1},                   {__LINE__, SPR_REFUSED_LENGTHS, 1, 4, 0},
+        {__LINE__, SPR_REFUSED_LENGTHS, 1, 4, 2},        {__LINE__, SPR_DONE, 1, 5, 3},
+        {__LINE__, SPR_DONE, 1, 65535, 131063},          {__LINE__, SPR_REFUSED_LENGTHS, 1, 65536, 131065},
+        {__LINE__, SPR_REFUSED_LENGTHS, 2, 0, 0},        {__LINE__, SPR_REFUSED_LENGTHS, 2, 4, 0},
+        {__LINE__, SPR_DONE, 2, 8, 2},                   {__LINE__, SPR_REFUSED_LENGTHS, 2, 8, 1},
+        {__LINE__, SPR_REFUSED_LENGTHS, 2, 12, 10},      {__LINE__, SPR_DONE, 2, 16, 18},
+        {__LINE__, SPR_DONE, 2, 65528, 131042},          {__LINE__, SPR_REFUSED_LENGTHS, 2, 65536, 131058},
+        {__LINE__, SPR_REFUSED_CHANNELS, 0, 4, 1},       {__LINE__, SPR_REFUSED_CHANNELS, 3, 12, 3},
+        {__LINE__, SPR_REFUSED_CHANNELS, 255, 1020, 255}, {__LINE__, SPR_REFUSED_CHANNELS, 3, 3, 3},
+    };
+    FOR_EACH(rows)
+        ms_call((uint8_t)rows[k].channels, rows[k].n, rows[k].m, rows[k].number);
+    CHECK(SPR_MS_MOST_BYTES == 65535 && SPR_LOSS_MOST_SAMPLES == SPR_MS_SAMPLES(1, SPR_MS_MOST_BYTES));
+}
+
+/* Repacking is decoding and encoding, from the header's indices, lowered; a second time changes nothing. */
+static void repack_call(uint8_t channels, const uint8_t *block, size_t n, size_t n2, int number)
+{
+    uint8_t changed[3] = {FILL, FILL, FILL}, *twice = bytes + n, *again = bytes + 2 * n;
+    fill();
+    CHECK(spr_repack_ms(channels, block, n, bytes, n2, changed + 1) == number);
+    CHECK(kept(number == SPR_DONE ? n : 0, 0) && changed[0] == FILL && changed[2] == FILL);
+    if (number != SPR_DONE) {
+        CHECK(changed[1] == FILL);
+        return;
+    }
+    CHECK(changed[1] == (memcmp(block, bytes, n) != 0));
+    if (3 * n > MOST_BYTES)
+        return;
+    for (size_t c = 0; c < channels; c++)
+        indices[1 + c] = block[4 * c + 2] < 88 ? block[4 * c + 2] : 88;
+    const size_t m = SPR_MS_SAMPLES(channels, n);
+    CHECK(spr_decode_ms(channels, block, n, samples, m) == SPR_DONE);
+    CHECK(spr_encode_ms(channels, samples, m, predictors + 1, indices + 1, again, n) == SPR_DONE);
+    CHECK(memcmp(bytes, again, n) == 0);
+    CHECK(spr_repack_ms(channels, bytes, n, twice, n, changed + 1) == SPR_DONE);
+    CHECK(changed[1] == 0 && memcmp(bytes, twice, n) == 0);
+}
+
+static void repacks(void)
+{
+    static const struct {
+        int line;
+        uint8_t in[5], out[5];
+    } rows[] = {
+        {__LINE__, {0, 0, 0, 0, 0x17}, {0, 0, 0, 0, 0x17}},
+        {__LINE__, {0xf6, 0x7f, 0, 0, 7}, {0xf6, 0x7f, 0, 0, 5}},
+        {__LINE__, {0, 0, 200, 0, 0}, {0, 0, 88, 0, 0}},
+        {__LINE__, {0, 0, 0, 42, 0x17}, {0, 0, 0, 0, 0x17}},
+    };
+    FOR_EACH(rows) {
+        repack_call(1, rows[k].in, 5, 5, SPR_DONE);
+        CHECK(memcmp(bytes, rows[k].out, 5) == 0);
+    }
+}
+
+/* What SPR_MS_SAMPLES counts is what the calls take, and where it is 0 they refuse. */
+static void ms_counts(void)
+{
+    static const uint8_t numbers[] = {0, 1, 2, 3, 255};
+    for (size_t k = 0; k < sizeof numbers; k++)
+        for (row = 0; row < 65540; row += row == 300 ? 65200 : 1) {
+            const uint8_t channels = numbers[k];
+            const size_t n = (size_t)row, m = SPR_MS_SAMPLES(channels, n);
+            const int refusal = channels == 1 || channels == 2 ? SPR_REFUSED_LENGTHS : SPR_REFUSED_CHANNELS;
+            const int number = m > 0 ? SPR_DONE : refusal;
+            CHECK(spr_decode_ms(channels, given_bytes, n, samples, m) == number);
+            if (row > 300)
+                continue;
+            ms_call(channels, n, m, number);
+            repack_call(channels, given_bytes, n, n, number);
+            repack_call(channels, given_bytes, n, n + 1, refusal);
+        }
+}
+
+/* The three numbers stand between guards, and are the filled ones after a refusal. */
+static void loss_call(const int16_t *one, size_t n, const int16_t *other, size_t n2, const uint32_t expected[4])
+{
+    uint32_t count[3], first[3];
+    uint16_t peak[3];
+    memset(count, FILL, sizeof count), memset(first, FILL, sizeof first), memset(peak, FILL, sizeof peak);
+    const uint32_t wide = count[0];
+    const uint16_t narrow = peak[0];
+    const int taken = expected[0] == SPR_DONE;
+    CHECK(spr_loss(one, n, other, n2, count + 1, first + 1, peak + 1) == expected[0]);
+    CHECK(count[0] == wide && count[1] == (taken ? expected[1] : wide) && count[2] == wide);
+    CHECK(first[0] == wide && first[1] == (taken ? expected[2] : wide) && first[2] == wide);
+    CHECK(peak[0] == narrow && peak[1] == (taken ? expected[3] : narrow) && peak[2] == narrow);
+}
+
+static void losses(void)
+{
+    static const uint32_t same[4] = {SPR_DONE, 0, SPR_NOWHERE, 0}, refused[4] = {SPR_REFUSED_LENGTHS};
+    static const struct {
+        int line;
+        int16_t before[3], after[3];
+        uint32_t expected[4];
+    } rows[] = {
+        {__LINE__, {1, 2, 3}, {1, 2, 3}, {SPR_DONE, 0, SPR_NOWHERE, 0}},
+        {__LINE__, {1, 2, 3}, {1, 5, 1}, {SPR_DONE, 2, 1, 3}},
+        {__LINE__, {9, 2, 3}, {1, 2, 3}, {SPR_DONE, 1, 0, 8}},
+        {__LINE__, {0, 0, 32767}, {0, 0, 0}, {SPR_DONE, 1, 2, 32767}},
+        {__LINE__, {0, 0, -32768}, {0, 0, 0}, {SPR_DONE, 1, 2, 32767}},
+        {__LINE__, {-32768, 0, 1}, {32767, 1, 0}, {SPR_DONE, 3, 0, 32767}},
+    };
+    FOR_EACH(rows) {
+        loss_call(rows[k].before, 3, rows[k].after, 3, rows[k].expected);
+        loss_call(rows[k].after, 3, rows[k].before, 3, rows[k].expected);
+        loss_call(rows[k].before, 3, rows[k].after, 2, refused);
+        loss_call(rows[k].before, 0, rows[k].after, 0, same);
+    }
+    const size_t most = SPR_LOSS_MOST_SAMPLES;
+    const uint32_t last[4] = {SPR_DONE, 1, (uint32_t)most - 1, 1};
+    memcpy(samples, given_samples, sizeof given_samples);
+    samples[most - 1] ^= 1;
+    loss_call(given_samples, most, samples, most, last);
+    loss_call(given_samples, most, given_samples, most, same);
+    loss_call(given_samples, most + 1, given_samples, most + 1, refused);
+    loss_call(given_samples, most + 1, given_samples, most, refused);
+}
+
+/* The calls that read have left what they read alone. */
+int main(void)
+{
+    static uint8_t first_bytes[MOST_BYTES];
+    static int16_t first_samples[MOST_SAMPLES];
+    noise(given_bytes, sizeof given_bytes);
+    noise(given_samples, sizeof given_samples);
+    memcpy(first_bytes, given_bytes, sizeof given_bytes);
+    memcpy(first_samples, given_samples, sizeof given_samples);
+    laws();
+    nibbles();
+    all_nibbles();
+    ima4_lengths();
+    ima4_headers();
+    ima4_runs();
+    ms_lengths();
+    repacks();
+    ms_counts();
+    losses();
+    CHECK(memcmp(first_bytes, given_bytes, sizeof given_bytes) == 0);
+    CHECK(memcmp(first_samples, given_samples, sizeof given_samples) == 0);
+    printf("calls: %lu checks\n", checks);
+    return 0;
+}
