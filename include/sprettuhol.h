@@ -1,8 +1,8 @@
 /* The C interface of Sprettuhol, for C99 and later, and for C++11 and later.
  *
- * Sprettuhol codes speech by the mu-law and A-law of G.711 and by IMA ADPCM: single nibbles, runs of ima4
- * blocks, and MS blocks (WAV format 0x0011). It repacks MS blocks, and reports what differs between two
- * runs of samples. Every function is proved to meet its contract; docs/PROMISES.md has the promises.
+ * Sprettuhol encodes and decodes speech by the mu-law and A-law of G.711 and by IMA ADPCM: single nibbles,
+ * runs of ima4 blocks, and MS blocks (WAV format 0x0011). It repacks MS blocks, and reports what differs between
+ * two runs of samples. Every function is proved to meet its contract; docs/PROMISES.md has the promises.
  *
  * From the top of the repository, a program is compiled and linked by
  *
@@ -67,13 +67,14 @@ extern "C" {
 /* The sample that a mu-law code stands for. Of 0x7f and of 0xff it is 0. */
 int16_t spr_decode_ulaw(uint8_t encoded);
 
-/* The mu-law code of a sample. Those above 32,635 decode to 32,124, and those below -32,636 to -32,124. */
+/* The mu-law code of a sample. Those above 32,635 come back from it as 32,124, and those below -32,636 as
+ * -32,124. */
 uint8_t spr_encode_ulaw(int16_t linear);
 
 /* The sample that an A-law code stands for, which is never 0. */
 int16_t spr_decode_alaw(uint8_t encoded);
 
-/* The A-law code of a sample. That of 0 decodes to 8. */
+/* The A-law code of a sample. 0 comes back from it as 8. */
 uint8_t spr_encode_alaw(int16_t linear);
 
 /* IMA ADPCM. A state is two numbers, the predictor, which is the last sample, and the step index. A decoder
