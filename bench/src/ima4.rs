@@ -1,13 +1,17 @@
-//! Runs of ima4 blocks. Ours are true calls, of 1, 32 or 1,024 blocks each, so the rows say what a call
-//! costs beside its blocks. The oracle's call for one block is inlined into a loop over the blocks of the
-//! same slices.
+//! Runs of ima4 blocks. Ours are true calls, of 1 to 1,024 blocks each, so the rows say what a call costs
+//! beside its blocks. The oracle's call for one block is inlined into a loop over the blocks of the same
+//! slices.
 
 use crate::blocks::{oracle, ours, BYTES, MOST, SAMPLES};
+use crate::growth;
 use crate::rounds::{round, Row};
 use crate::signal::{noise, speech};
 
 /// So many blocks are timed together, no two with the same samples.
 pub const BLOCKS: usize = 4 * MOST;
+/// The blocks a call of those rows that are shown beside the other calls.
+pub const SHOWN: [usize; 3] = [1, 32, MOST];
+const UNIT: &str = "blocks a call";
 
 pub struct Content {
     name: &'static str,
@@ -34,15 +38,13 @@ fn content(name: &'static str, samples: Vec<i16>) -> Content {
     }
 }
 
-pub fn rows(contents: &[Content]) -> Vec<Row<'_>> {
+/// Speech has a row for each number of blocks, to see how it grows.
+pub fn rows([speech, noise]: &[Content; 2]) -> Vec<Row<'_>> {
+    let sizes: Vec<usize> = growth::sizes().collect();
     let mut rows = Vec::new();
-    for content in contents {
-        for blocks in [1, 32, MOST] {
-            rows.push(decode(content, blocks));
-        }
-        for blocks in [1, 32, MOST] {
-            rows.push(encode(content, blocks));
-        }
+    for (content, sizes) in [(speech, &sizes[..]), (noise, &SHOWN)] {
+        rows.extend(sizes.iter().map(|&blocks| decode(content, blocks)));
+        rows.extend(sizes.iter().map(|&blocks| encode(content, blocks)));
     }
     rows
 }
@@ -52,7 +54,7 @@ fn decode(content: &Content, blocks: usize) -> Row<'_> {
     let input = (&content.bytes[..], bytes);
     let all = content.samples.len();
     let round = round(all, input, samples, ours::decode, oracle::decode);
-    Row::new("decode_ima4", content.name, blocks, round)
+    Row::new("decode_ima4", content.name, (blocks, UNIT), None, round)
 }
 
 fn encode(content: &Content, blocks: usize) -> Row<'_> {
@@ -60,5 +62,5 @@ fn encode(content: &Content, blocks: usize) -> Row<'_> {
     let input = (&content.samples[..], samples);
     let all = content.samples.len();
     let round = round(all, input, bytes, ours::encode, oracle::encode);
-    Row::new("encode_ima4", content.name, blocks, round)
+    Row::new("encode_ima4", content.name, (blocks, UNIT), None, round)
 }

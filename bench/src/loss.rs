@@ -59,17 +59,18 @@ fn row(content: &Content) -> Row<'_> {
     let round = round(
         SAMPLES,
         (&content.pairs, 2 * len),
-        // a buffer that nobody writes to: there is nothing but the report
+        // what is written is the report
         1,
-        move |pair, (count, first, peak): &mut Loss, _: &mut [u8]| {
+        move |pair, (): &mut (), report: &mut [Loss]| {
             let (before, after) = pair.split_at(len);
+            let (count, first, peak) = &mut report[0];
             ffi::loss(before, after, count, first, peak)
         },
-        move |pair, report: &mut Loss, _: &mut [u8]| {
+        move |pair, (): &mut (), report: &mut [Loss]| {
             let (before, after) = pair.split_at(len);
-            *report = loss(before, after);
+            report[0] = loss(before, after);
             0
         },
     );
-    Row::new("loss", content.name, len, round)
+    Row::new("loss", content.name, (len, "pairs a call"), None, round)
 }

@@ -1,13 +1,19 @@
 //! Times each call of the proved library and the oracle's, and prints Markdown tables: of the calls for
-//! one value, of those for a run of ima4 blocks, of those for an MS block, and of the loss report. What it
-//! is doing goes to standard error, so that standard output can go to a file.
+//! one value, of those for a run of ima4 blocks, of those for an MS block, of the loss report, and of how
+//! a sample's time changes from one block to a thousand. The last is drawn besides, into the file that the
+//! first argument names. What it is doing goes to standard error, so that standard output can go to a file.
+//!
+//! The last line names the rows in which ours takes longer for no reason that is known. The status is 1 if
+//! there are any.
 
 mod adpcm_ima;
+mod best;
 #[path = "../../tests/differential/src/blocks.rs"]
 mod blocks;
 #[path = "../../tests/differential/src/ffi.rs"]
 mod ffi;
 mod g711;
+mod growth;
 mod ima4;
 mod loss;
 mod ms;
@@ -17,41 +23,54 @@ mod ms_block;
 mod nibble;
 #[path = "../../tests/differential/src/loss/plain.rs"]
 mod plain;
+mod plot;
 mod rounds;
 #[path = "../../tests/differential/src/signal.rs"]
 mod signal;
 mod timing;
 
+use best::Verdict;
+use growth::Series;
 use rounds::Row;
+use std::process::ExitCode;
 
-fn main() {
-    let build = if cfg!(debug_assertions) {
-        "NOT a release build: these times say nothing"
-    } else {
-        "release build"
-    };
-    let machine = std::env::consts::ARCH;
-    println!("{machine}, {build}.");
-    println!();
-    values();
-    println!();
-    blocks();
+/// Of every table of blocks: what became of the buffers.
+const BUFFERS: &str =
+    "The buffers are allocated and written once before the first round, and not cleared.";
+
+fn main() -> ExitCode {
+    if cfg!(debug_assertions) {
+        println!("NOT a release build: these times say nothing.");
+        println!();
+    }
+    let mut verdict = Verdict::default();
+    values(&mut verdict);
+    blocks(&mut verdict);
+    verdict.end()
 }
 
-fn values() {
+fn values(verdict: &mut Verdict) {
     println!("Nanoseconds a call, the best of {} runs.", timing::RUNS);
+    println!("There are no buffers.");
     println!();
-    println!("| call | ours | Rust | ours / Rust | Rust behind a call |");
-    println!("|---|---:|---:|---:|---:|");
+    println!(
+        "| call | ours | Rust | ours / Rust | Rust behind a call | and copying as much | why above 1.0 |"
+    );
+    println!("|---|---:|---:|---:|---:|---:|---|");
     // each family of calls adds its rows
     for row in g711::rows().into_iter().chain(adpcm_ima::rows()) {
+        let (best, reason) = (row.best, row.reason());
+        verdict.take(row.call, best, reason);
         println!(
-            "| {} | {:.2} | {:.2} | {:.2} | {:.2} |",
+            "| {} | {:.2} | {:.2} | {:.2} | {:.2} | {} | {} |",
             row.call,
-            row.ours,
-            row.rust,
-            row.ours / row.rust,
-            row.rust_called
+            best.ours,
+            best.rust,
+            best.ratio(),
+            row.called,
+            row.copied
+                .map_or("-".to_string(), |time| format!("{time:.2}")),
+            best.why(reason)
         );
     }
     println!();
@@ -59,56 +78,109 @@ fn values() {
         "The loop itself, with no call in it, takes {:.2} of each.",
         timing::loop_alone()
     );
+    println!();
 }
 
-fn blocks() {
+fn blocks(verdict: &mut Verdict) {
     let (ima4, ms, loss) = (ima4::contents(), ms::contents(), loss::contents());
-    let mut rows = ima4::rows(&ima4);
-    let of_ima4 = rows.len();
-    rows.extend(ms::rows(&ms));
-    let of_blocks = rows.len();
-    rows.extend(loss::rows(&loss));
+    let growing = ms::growing();
+    let mut tables = [
+        ima4::rows(&ima4),
+        ms::rows(&ms),
+        loss::rows(&loss),
+        ms::growth(&growing),
+    ];
     eprintln!("timing runs of ima4, MS blocks, and the loss report ..");
-    rounds::time(&mut rows);
-    let (rows, of_loss) = rows.split_at(of_blocks);
-    let (of_ima4, of_ms) = rows.split_at(of_ima4);
+    rounds::time(&mut tables);
+    for row in tables.iter().flatten() {
+        let name = format!("{} {} {} {}", row.call, row.content, row.number, row.unit);
+        verdict.take(&name, row.best, row.reason);
+    }
+    let [of_ima4, of_ms, of_loss, growing] = &tables;
+    calls(of_ima4, of_ms, of_loss);
+    grown(of_ima4, growing);
+}
 
+fn calls(of_ima4: &[Row], of_ms: &[Row], of_loss: &[Row]) {
+    let runs = rounds::RUNS;
     println!(
-        "Nanoseconds a sample, the best of {} runs over {} blocks.",
-        rounds::RUNS,
+        "Nanoseconds a sample, the best of {runs} runs over {} blocks.",
         ima4::BLOCKS
     );
-    table("blocks a call", of_ima4);
-    println!();
+    let shown = |row: &&Row| ima4::SHOWN.contains(&row.number);
+    table(of_ima4.iter().filter(shown).collect());
     println!(
-        "Nanoseconds a sample, the best of {} runs over {} blocks of one channel, or {} of two.",
-        rounds::RUNS,
+        "Nanoseconds a sample, the best of {runs} runs over {} blocks of one channel, or {} of two.",
         ms::BLOCKS,
         ms::BLOCKS / 2
     );
-    table("channels", of_ms);
-    println!();
+    table(of_ms.iter().collect());
     println!(
-        "Nanoseconds a pair of samples, the best of {} runs over {} pairs.",
-        rounds::RUNS,
+        "Nanoseconds a pair of samples, the best of {runs} runs over {} pairs.",
         loss::SAMPLES
     );
-    table("pairs a call", of_loss);
+    table(of_loss.iter().collect());
 }
 
-fn table(number: &str, rows: &[Row]) {
+fn table(rows: Vec<&Row>) {
+    let unit = rows[0].unit;
+    println!("{BUFFERS}");
     println!();
-    println!("| call | samples | {number} | ours | Rust | ours / Rust |");
-    println!("|---|---|---:|---:|---:|---:|");
+    println!("| call | samples | {unit} | ours | Rust | ours / Rust | why above 1.0 |");
+    println!("|---|---|---:|---:|---:|---:|---|");
     for row in rows {
         println!(
-            "| {} | {} | {} | {:.2} | {:.2} | {:.2} |",
+            "| {} | {} | {} | {:.2} | {:.2} | {:.2} | {} |",
             row.call,
             row.content,
             row.number,
-            row.ours,
-            row.rust,
-            row.ours / row.rust
+            row.best.ours,
+            row.best.rust,
+            row.best.ratio(),
+            row.best.why(row.reason)
         );
     }
+    println!();
+}
+
+fn grown(of_ima4: &[Row], of_ms: &[Row]) {
+    println!(
+        "From one block to {}, of speech: nanoseconds a sample, the best of {} runs.",
+        growth::MOST,
+        rounds::RUNS
+    );
+    println!(
+        "Runs of ima4: so many blocks a call, {} in all.",
+        ima4::BLOCKS
+    );
+    println!(
+        "MS, one channel: so many blocks, one a call, over and over until {} samples went by.",
+        rounds::LEAST
+    );
+    println!("{BUFFERS}");
+    println!();
+    let all = [
+        growth::series(of_ima4, "decode_ima4"),
+        growth::series(of_ima4, "encode_ima4"),
+        growth::series(of_ms, "decode_ms"),
+        growth::series(of_ms, "encode_ms"),
+    ];
+    growth::table(&all);
+    println!();
+    if let Some(file) = std::env::args_os().nth(1) {
+        std::fs::write(&file, drawn(&all)).expect("the plot can be written");
+    }
+}
+
+fn drawn([decode_ima4, encode_ima4, decode_ms, encode_ms]: &[Series; 4]) -> String {
+    let panels = [
+        growth::panel("Runs of ima4", decode_ima4, encode_ima4),
+        growth::panel("MS blocks, one a call", decode_ms, encode_ms),
+    ];
+    let machine = std::env::consts::ARCH;
+    let title = format!(
+        "Time of a sample, from one block to {}, {machine}",
+        growth::MOST
+    );
+    plot::svg(&title, &panels)
 }

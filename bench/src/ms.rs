@@ -1,5 +1,6 @@
 //! MS blocks of the usual lengths, 1,024 bytes for each channel, one a call. Both sides are true calls.
 
+use crate::growth;
 use crate::ms_block::{interleaved, oracle, ours, States};
 use crate::rounds::{round, Row};
 use crate::signal::{noise, speech};
@@ -29,9 +30,14 @@ pub fn contents() -> [Content; 4] {
     ]
 }
 
+/// What grows has one channel, and a thousand blocks.
+pub fn growing() -> Content {
+    content("speech", 1, speech(1, growth::MOST * SAMPLES))
+}
+
 fn content(name: &'static str, channels: u8, samples: Vec<i16>) -> Content {
     let (to, from) = lengths(channels);
-    let mut bytes = vec![0; BLOCKS * BYTES];
+    let mut bytes = vec![0; samples.len() / from * to];
     let mut states = [(0, 0); 2];
     for (samples, block) in samples.chunks_exact(from).zip(bytes.chunks_exact_mut(to)) {
         oracle::encode(channels, samples, &mut states, block);
@@ -50,54 +56,94 @@ fn lengths(channels: u8) -> (usize, usize) {
     (channels * BYTES, channels * SAMPLES)
 }
 
+/// Blocks that are timed together, and the number that their row shows.
+struct Blocks<'a> {
+    name: &'static str,
+    channels: u8,
+    number: (usize, &'static str),
+    samples: &'a [i16],
+    bytes: &'a [u8],
+}
+
+impl Content {
+    fn all(&self) -> Blocks<'_> {
+        Blocks {
+            name: self.name,
+            channels: self.channels,
+            number: (self.channels.into(), "channels"),
+            samples: &self.samples,
+            bytes: &self.bytes,
+        }
+    }
+
+    fn first(&self, blocks: usize) -> Blocks<'_> {
+        let (bytes, samples) = lengths(self.channels);
+        Blocks {
+            number: (blocks, "blocks"),
+            samples: &self.samples[..blocks * samples],
+            bytes: &self.bytes[..blocks * bytes],
+            ..self.all()
+        }
+    }
+}
+
 pub fn rows(contents: &[Content]) -> Vec<Row<'_>> {
-    let mut rows: Vec<Row> = contents.iter().map(decode).collect();
-    rows.extend(contents.iter().map(encode));
-    rows.extend(contents.iter().map(repack));
+    let all = || contents.iter().map(Content::all);
+    let mut rows: Vec<Row> = all().map(decode).collect();
+    rows.extend(all().map(encode));
+    rows.extend(all().map(repack));
     rows
 }
 
-fn decode(content: &Content) -> Row<'_> {
-    let channels = content.channels;
+/// A row for each number of blocks.
+pub fn growth(content: &Content) -> Vec<Row<'_>> {
+    let first = || growth::sizes().map(|blocks| content.first(blocks));
+    let mut rows: Vec<Row> = first().map(decode).collect();
+    rows.extend(first().map(encode));
+    rows
+}
+
+fn decode(blocks: Blocks) -> Row {
+    let channels = blocks.channels;
     let (from, to) = lengths(channels);
     // a decoder has no state
     let round = round(
-        content.samples.len(),
-        (&content.bytes, from),
+        blocks.samples.len(),
+        (blocks.bytes, from),
         to,
         move |block, (): &mut (), samples| ours::decode(channels, block, samples),
         move |block, (): &mut (), samples| oracle::decode(channels, block, samples),
     );
-    Row::new("decode_ms", content.name, channels.into(), round)
+    Row::new("decode_ms", blocks.name, blocks.number, None, round)
 }
 
-fn encode(content: &Content) -> Row<'_> {
-    let channels = content.channels;
+fn encode(blocks: Blocks) -> Row {
+    let channels = blocks.channels;
     let (to, from) = lengths(channels);
     let round = round(
-        content.samples.len(),
-        (&content.samples, from),
+        blocks.samples.len(),
+        (blocks.samples, from),
         to,
         move |samples, states: &mut States, block| ours::encode(channels, samples, states, block),
         move |samples, states: &mut States, block| oracle::encode(channels, samples, states, block),
     );
-    Row::new("encode_ms", content.name, channels.into(), round)
+    Row::new("encode_ms", blocks.name, blocks.number, None, round)
 }
 
 /// Of blocks that the encoder wrote, which do not change. The Rust has no such call: it decodes the block
 /// and encodes the samples, with room for these at hand.
-fn repack(content: &Content) -> Row<'_> {
+fn repack(blocks: Blocks) -> Row {
     type State = (u8, Vec<i16>);
-    let channels = content.channels;
+    let channels = blocks.channels;
     let (bytes, _) = lengths(channels);
     let round = round(
-        content.samples.len(),
-        (&content.bytes, bytes),
+        blocks.samples.len(),
+        (blocks.bytes, bytes),
         bytes,
         move |block, (changed, _): &mut State, new| ours::repack(channels, block, changed, new),
         move |block, (changed, samples): &mut State, new| {
             oracle::repack(samples, channels, block, changed, new)
         },
     );
-    Row::new("repack_ms", content.name, channels.into(), round)
+    Row::new("repack_ms", blocks.name, blocks.number, None, round)
 }
