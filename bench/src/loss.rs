@@ -20,7 +20,8 @@ pub struct Content {
     pairs: Vec<i16>,
 }
 
-/// Nearly all samples of speech and of noise differ from what became of them; equal ones do not.
+/// Nearly all samples of speech and of noise differ from what became of them, and of equal ones none. Where
+/// the last of a run does alone, ours looks for it longest.
 pub fn contents() -> Vec<Content> {
     let (speech, noise) = (speech(1, SAMPLES), noise(1, SAMPLES));
     let mut contents = Vec::new();
@@ -28,6 +29,7 @@ pub fn contents() -> Vec<Content> {
         contents.push(content("speech", len, &speech, &coded(&speech)));
         contents.push(content("noise", len, &noise, &coded(&noise)));
         contents.push(content("equal", len, &speech, &speech));
+        contents.push(content("last", len, &speech, &last_moved(&speech, len)));
     }
     contents
 }
@@ -47,6 +49,12 @@ fn coded(samples: &[i16]) -> Vec<i16> {
         encode(1, run, &mut states, &mut block);
         decode(1, &block, run);
     }
+    after
+}
+
+fn last_moved(samples: &[i16], len: usize) -> Vec<i16> {
+    let mut after = samples.to_vec();
+    after.chunks_mut(len).for_each(|run| run[len - 1] ^= 1);
     after
 }
 
