@@ -10,7 +10,7 @@ mod adpcm_ima;
 mod best;
 #[path = "../../tests/differential/src/blocks.rs"]
 mod blocks;
-#[path = "../../tests/differential/src/ffi.rs"]
+#[path = "../../bindings/rust/src/ffi.rs"]
 mod ffi;
 mod g711;
 mod growth;

@@ -10,6 +10,7 @@ mod blocks;
 mod calls;
 mod cuts;
 mod exhaustive;
+#[path = "../../../bindings/rust/src/ffi.rs"]
 mod ffi;
 mod g711;
 mod headers;

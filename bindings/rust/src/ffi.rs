@@ -1,4 +1,5 @@
-//! The C interface of the proved library, as safe functions. bench/ uses this file too.
+//! The C interface of the proved library, as safe functions. All that is unsafe is here. tests/differential and
+//! bench use this file too, so that what is compared and timed is the layer that is shipped.
 
 mod c {
     extern "C" {
