@@ -1,0 +1,72 @@
+//! Proved audio codecs: G.711 mu-law and A-law, and IMA ADPCM by the nibble, in ima4 blocks and in MS (WAV)
+//! blocks.
+//!
+//! ```
+//! use sprettuhol::decode_adpcm_ima_ms;
+//!
+//! let mut samples = [0; 3];
+//! decode_adpcm_ima_ms(&[0, 0, 0, 0, 0x17], false, &mut samples)?;
+//! assert_eq!(samples, [0, 11, 17]);
+//! # Ok::<(), sprettuhol::Error>(())
+//! ```
+//!
+//! # In the place of audio-codec-algorithms
+//!
+//! What that crate, in version 0.8.1, has of G.711 and of IMA ADPCM is here by the same names and with the same
+//! signatures. A caller changes one line of Cargo.toml, and nothing else:
+//!
+//! ```toml
+//! audio-codec-algorithms = { package = "sprettuhol", path = ".../bindings/rust" }
+//! ```
+//!
+//! Its two calls that turn a code of one law into one of the other are left behind.
+//!
+//! # What is added
+//!
+//! Runs of ima4 blocks ([`decode_adpcm_ima_ima4_run`], [`encode_adpcm_ima_ima4_run`]), repacking of MS blocks
+//! ([`repack_adpcm_ima_ms`]) and the loss report ([`loss_report`]). They answer a [`Refusal`] where the ported
+//! calls answer an [`Error`].
+//!
+//! # What is proved
+//!
+//! The library behind these functions is: every call ends, is defined for all inputs, and answers what a short
+//! definition says. It looks at every length and channel number itself; this crate hands them on as they are, and
+//! turns the number that comes back into a `Result`. What is refused is not begun: no buffer and no state is
+//! written then. This crate itself is not proved; all that is unsafe in it is one file, the calls over the C
+//! interface.
+//!
+//! # Linking
+//!
+//! The build script links libsprettuhol.a from target/staticlib of the repository, where tools/archive writes it,
+//! or from the folder whose whole path is in the environment variable `SPRETTUHOL_LIB_DIR`.
+
+#![no_std]
+#![deny(missing_docs, unsafe_code)]
+
+#[allow(unsafe_code)]
+mod ffi;
+
+mod adpcm_ima;
+mod g711;
+mod ima4;
+mod loss;
+mod ms;
+mod refusal;
+mod repacking;
+
+pub use adpcm_ima::{decode_adpcm_ima, encode_adpcm_ima, AdpcmImaState};
+pub use g711::{decode_alaw, decode_ulaw, encode_alaw, encode_ulaw};
+pub use ima4::{decode_adpcm_ima_ima4, encode_adpcm_ima_ima4};
+pub use ima4::{decode_adpcm_ima_ima4_run, encode_adpcm_ima_ima4_run};
+pub use loss::{loss_report, Loss};
+pub use ms::{decode_adpcm_ima_ms, encode_adpcm_ima_ms};
+pub use refusal::{Error, Refusal};
+pub use repacking::repack_adpcm_ima_ms;
+
+// until the guide's blocks are fenced
+// #[cfg(doctest)]
+// #[doc = include_str!("../../../docs/GUIDE.md")]
+// pub struct Guide;
+// #[cfg(doctest)]
+// #[doc = include_str!("../../../README.md")]
+// pub struct Readme;

@@ -1,0 +1,106 @@
+//! MS blocks, WAV format 0x0011, of one channel or two.
+
+use crate::refusal::answer;
+use crate::{ffi, AdpcmImaState, Error};
+
+/// Decodes an MS block, all of `out_samples`. Samples of two channels are interleaved, the left one first.
+///
+/// A block decodes by itself: each channel starts from its own four header bytes, predictor, index and a byte that
+/// is not looked at. An index above 88 is read as 88.
+///
+/// | | one channel | two channels, `is_stereo` |
+/// |---|---|---|
+/// | `buf`, n bytes | 4 to 65,535 | 8 to 65,528, divisible by 8 |
+/// | `out_samples` | 2n-7 | 2n-14 |
+///
+/// # Errors
+///
+/// [`Error::InvalidBufferSize`] for any other length. Then `out_samples` is as it was.
+///
+/// ```
+/// use sprettuhol::{decode_adpcm_ima_ms, Error};
+///
+/// let mut samples = [1; 3];
+/// decode_adpcm_ima_ms(&[0, 0, 0, 0, 0x17], false, &mut samples)?;
+/// assert_eq!(samples, [0, 11, 17]);
+///
+/// // not divisible by 8
+/// let mut samples = [1; 10];
+/// let refused = decode_adpcm_ima_ms(&[0; 12], true, &mut samples);
+/// assert!(matches!(refused, Err(Error::InvalidBufferSize)));
+/// assert_eq!(samples, [1; 10]);
+/// # Ok::<(), Error>(())
+/// ```
+#[inline]
+pub fn decode_adpcm_ima_ms(
+    buf: &[u8],
+    is_stereo: bool,
+    out_samples: &mut [i16],
+) -> Result<(), Error> {
+    let channels = if is_stereo { 2 } else { 1 };
+    Ok(answer(ffi::decode_ms(channels, buf, out_samples))?)
+}
+
+/// Encodes samples to an MS block, all of `out_buf`. The next states take the place of `states`, of which there are
+/// as many as channels, 1 or 2. Samples of two channels are interleaved, the left one first.
+///
+/// The lengths are those of [`decode_adpcm_ima_ms`]. Hand it the states of the block before, and zero states for
+/// the first: the header takes the index as it is, even one above 88, and for its predictor the first sample.
+///
+/// # Errors
+///
+/// [`Error::InvalidChannels`] for any other number of states, and after that [`Error::InvalidBufferSize`] for any
+/// other length. Then `out_buf` and all of `states` are as they were.
+///
+/// ```
+/// use sprettuhol::{encode_adpcm_ima_ms, AdpcmImaState, Error};
+///
+/// let (mut states, mut block) = ([AdpcmImaState::new()], [1; 5]);
+/// encode_adpcm_ima_ms(&[0, 11, 17], &mut states, &mut block)?;
+/// assert_eq!(block, [0, 0, 0, 0, 0x17]);
+///
+/// // the raw index, which only a nibble lowers
+/// let (mut states, mut block) = ([AdpcmImaState { predictor: 5, step_index: 200 }], [1; 4]);
+/// encode_adpcm_ima_ms(&[-2], &mut states, &mut block)?;
+/// assert_eq!(block, [0xfe, 0xff, 200, 0]);
+/// assert_eq!((states[0].predictor, states[0].step_index), (-2, 200));
+///
+/// // three channels; then 10 samples of two
+/// let mut states = vec![AdpcmImaState { predictor: 5, step_index: 200 }; 3];
+/// let (before, mut block) = (states.clone(), [1; 12]);
+/// let refused = encode_adpcm_ima_ms(&[0; 10], &mut states, &mut block);
+/// assert!(matches!(refused, Err(Error::InvalidChannels)));
+/// let refused = encode_adpcm_ima_ms(&[0; 10], &mut states[..2], &mut block);
+/// assert!(matches!(refused, Err(Error::InvalidBufferSize)));
+/// assert_eq!((states, block), (before, [1; 12]));
+/// # Ok::<(), Error>(())
+/// ```
+#[inline]
+pub fn encode_adpcm_ima_ms(
+    samples: &[i16],
+    states: &mut [AdpcmImaState],
+    out_buf: &mut [u8],
+) -> Result<(), Error> {
+    // more states than the number can say are 255, which is refused as well; cut to its low bits, 257 would be 1
+    let channels = u8::try_from(states.len()).unwrap_or(u8::MAX);
+    // the library is lent two of each, of one channel too; a state that is not there is zero
+    let [left, right] = [0, 1].map(|channel| states.get(channel).cloned().unwrap_or_default());
+    let mut predictors = [left.predictor, right.predictor];
+    let mut step_indices = [left.step_index, right.step_index];
+    let number = ffi::encode_ms(
+        channels,
+        samples,
+        &mut predictors,
+        &mut step_indices,
+        out_buf,
+    );
+    answer(number)?;
+    let next = predictors.into_iter().zip(step_indices);
+    for (state, (predictor, step_index)) in states.iter_mut().zip(next) {
+        *state = AdpcmImaState {
+            predictor,
+            step_index,
+        };
+    }
+    Ok(())
+}

@@ -1,0 +1,117 @@
+//! The number that the library answers, as a `Result`.
+
+use core::fmt;
+
+/// Why a call that this crate adds was refused. Whatever the call would have written is as it was.
+#[derive(Debug, Clone, Copy, PartialEq, Eq, Hash)]
+pub enum Refusal {
+    /// 1: the channel number is not 1 or 2.
+    Channels,
+    /// 2: a length breaks the rules of MS blocks or of the loss report, or two lengths do not fit each other.
+    Lengths,
+    /// 3: of ima4, bytes that are not 34 a block, samples that are not 64 a block, or over 1,024 blocks.
+    Blocks,
+}
+
+impl Refusal {
+    /// The number of the refusal over C, and in what the program `repack` prints.
+    ///
+    /// ```
+    /// use sprettuhol::{repack_adpcm_ima_ms, Refusal};
+    ///
+    /// let refused = repack_adpcm_ima_ms(3, &[0; 4], &mut [0; 4]);
+    /// assert_eq!(refused.map_err(Refusal::number), Err(1));
+    /// assert_eq!([Refusal::Lengths.number(), Refusal::Blocks.number()], [2, 3]);
+    /// assert_eq!(Refusal::Channels.to_string(), "the channel number is not 1 or 2");
+    /// ```
+    pub fn number(self) -> u8 {
+        match self {
+            Refusal::Channels => 1,
+            Refusal::Lengths => 2,
+            Refusal::Blocks => 3,
+        }
+    }
+}
+
+impl fmt::Display for Refusal {
+    fn fmt(&self, to: &mut fmt::Formatter<'_>) -> fmt::Result {
+        to.write_str(match self {
+            Refusal::Channels => "the channel number is not 1 or 2",
+            Refusal::Lengths => "a length is not allowed, or two lengths do not fit each other",
+            Refusal::Blocks => "not 34 bytes and 64 samples a block, or over 1,024 blocks",
+        })
+    }
+}
+
+impl core::error::Error for Refusal {}
+
+/// Why a call on an MS block was refused. Whatever the call would have written is as it was.
+#[derive(Debug)]
+pub enum Error {
+    /// The number of channels is not 1 or 2.
+    InvalidChannels,
+
+    /// A length is not allowed, or two lengths do not fit each other.
+    InvalidBufferSize,
+}
+
+impl fmt::Display for Error {
+    fn fmt(&self, to: &mut fmt::Formatter<'_>) -> fmt::Result {
+        to.write_str(match self {
+            Error::InvalidChannels => "invalid number of channels",
+            Error::InvalidBufferSize => "invalid buffer size",
+        })
+    }
+}
+
+impl core::error::Error for Error {}
+
+/// Both kinds of length are a buffer's.
+impl From<Refusal> for Error {
+    fn from(refusal: Refusal) -> Error {
+        match refusal {
+            Refusal::Channels => Error::InvalidChannels,
+            Refusal::Lengths | Refusal::Blocks => Error::InvalidBufferSize,
+        }
+    }
+}
+
+/// What the library's number says.
+pub(crate) fn answer(number: u8) -> Result<(), Refusal> {
+    match number {
+        0 => Ok(()),
+        1 => Err(Refusal::Channels),
+        3 => Err(Refusal::Blocks),
+        // 2. It is proved that there is no other number. If there were, nobody could rely on what was written, so
+        // it must not pass for done
+        _ => Err(Refusal::Lengths),
+    }
+}
+
+#[cfg(test)]
+mod tests {
+    use super::{answer, Error, Refusal};
+
+    #[test]
+    fn each_number_is_its_own_refusal() {
+        assert_eq!(answer(0), Ok(()));
+        for number in 1..=3 {
+            assert_eq!(answer(number).map_err(Refusal::number), Err(number));
+        }
+    }
+
+    #[test]
+    fn no_other_number_passes_for_done() {
+        for number in 4..=255 {
+            assert_eq!(answer(number), Err(Refusal::Lengths), "{number}");
+        }
+    }
+
+    #[test]
+    fn refusals_are_the_errors_of_the_original() {
+        assert!(matches!(Refusal::Channels.into(), Error::InvalidChannels));
+        for refusal in [Refusal::Lengths, Refusal::Blocks] {
+            assert!(matches!(refusal.into(), Error::InvalidBufferSize));
+        }
+    }
+}
