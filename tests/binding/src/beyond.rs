@@ -1,0 +1,215 @@
+//! The calls that the binding adds. A run is held to the Rust's call for one block, with the state handed
+//! on; repacking to its decoder and then its encoder; the loss report to a plain loop. What is refused
+//! leaves all as it was.
+
+use crate::{oracle, plain};
+use audio_codec_algorithms::{decode_adpcm_ima_ima4, encode_adpcm_ima_ima4, AdpcmImaState};
+use calls_rust::{below, bytes, index, lengths, lent, pick, sample, samples, signal::Random};
+use calls_rust::{plain as numbers, sized, Outcome};
+use sprettuhol::{decode_adpcm_ima_ima4_run, encode_adpcm_ima_ima4_run, repack_adpcm_ima_ms};
+use sprettuhol::{loss_report, Loss, Refusal};
+
+/// What is expected, and what the binding did.
+type Both = (Outcome, Outcome);
+
+pub const CALLS: [fn(u64) -> Both; 4] = [decode_run, encode_run, repack, loss];
+
+/// All answers, behind the numbers of blocks, the channel numbers, or what the lengths are.
+pub const RUNS: [(&str, &str); 2] = [
+    ("0 | 1 | 2 | 7 | 1024", "done"),
+    ("1025 | unfitting", REFUSALS[2]),
+];
+pub const REPACKINGS: [(&str, &str); 4] = [
+    ("1 | 1 long | 2 | 2 long", "done, same"),
+    ("1 | 1 long | 2 | 2 long", "done, changed"),
+    ("1 | 1 long | 2 | 2 long", REFUSALS[1]),
+    ("0 | 0 long | 3 | 3 long | 255 | 255 long", REFUSALS[0]),
+];
+pub const LOSSES: [(&str, &str); 3] = [
+    ("equal", "done, same"),
+    ("equal", "done, moved"),
+    ("unequal | long", REFUSALS[1]),
+];
+
+/// Each refusal, its number and its text.
+const REFUSALS: [&str; 3] = [
+    "Channels 1, the channel number is not 1 or 2",
+    "Lengths 2, a length is not allowed, or two lengths do not fit each other",
+    "Blocks 3, not 34 bytes and 64 samples a block, or over 1,024 blocks",
+];
+
+/// An answer of the binding.
+fn told(answer: Result<&str, Refusal>) -> String {
+    let words = |refusal: Refusal| format!("{refusal:?} {}, {refusal}", refusal.number());
+    answer.map_or_else(words, String::from)
+}
+
+/// Half of the time the blocks are the Rust's own, at whose headers the state is kept.
+fn decode_run(seed: u64) -> Both {
+    let random = &mut Random::new(seed);
+    let run = run_lengths(random);
+    let mut buf = bytes(random, run.1);
+    if pick(random, &[true, false]) {
+        let samples = samples(random, run.1 / 34 * 64);
+        encode_blocks(&samples, &mut AdpcmImaState::new(), &mut buf);
+    }
+    let binding = |state: &mut _, out: &mut [_]| decode_adpcm_ima_ima4_run(&buf, state, out);
+    let rust = |state: &mut _, out: &mut [_]| {
+        for (block, out) in buf.chunks_exact(34).zip(out.chunks_exact_mut(64)) {
+            decode_adpcm_ima_ima4(block.try_into().unwrap(), state, out.try_into().unwrap());
+        }
+    };
+    both_runs(
+        "decode_adpcm_ima_ima4_run",
+        random,
+        run,
+        run.2,
+        rust,
+        binding,
+    )
+}
+
+fn encode_run(seed: u64) -> Both {
+    let random = &mut Random::new(seed);
+    let run = run_lengths(random);
+    let samples = samples(random, run.2);
+    let binding = |state: &mut _, out: &mut [_]| encode_adpcm_ima_ima4_run(&samples, state, out);
+    let rust = |state: &mut _, out: &mut [_]| encode_blocks(&samples, state, out);
+    both_runs(
+        "encode_adpcm_ima_ima4_run",
+        random,
+        run,
+        run.1,
+        rust,
+        binding,
+    )
+}
+
+fn encode_blocks(samples: &[i16], state: &mut AdpcmImaState, out: &mut [u8]) {
+    for (block, out) in samples.chunks_exact(64).zip(out.chunks_exact_mut(34)) {
+        encode_adpcm_ima_ima4(block.try_into().unwrap(), state, out.try_into().unwrap());
+    }
+}
+
+/// A number of blocks; and how many bytes and samples, which fit it more often than not.
+fn run_lengths(random: &mut Random) -> (usize, usize, usize) {
+    let long = pick(random, &[1024, 1025]);
+    let blocks = pick(random, &[0, 1, 2, 7, 7, 7, 7, long]);
+    let off = |len: usize, block| [len + 1, len.saturating_sub(1), len + block];
+    let (bytes, samples) = (34 * blocks, 64 * blocks);
+    match below(random, 6) {
+        0 => (blocks, pick(random, &off(bytes, 34)), samples),
+        1 => (blocks, bytes, pick(random, &off(samples, 64))),
+        _ => (blocks, bytes, samples),
+    }
+}
+
+/// A run by both, from one state at random, into a buffer of that length.
+fn both_runs<T: Copy + From<u8> + Into<i32>>(
+    call: &'static str,
+    random: &mut Random,
+    (blocks, bytes, samples): (usize, usize, usize),
+    len: usize,
+    rust: impl FnOnce(&mut AdpcmImaState, &mut [T]),
+    binding: impl FnOnce(&mut sprettuhol::AdpcmImaState, &mut [T]) -> Result<(), Refusal>,
+) -> Both {
+    let (predictor, step_index) = (sample(random), index(random));
+    let fits = bytes == 34 * blocks && samples == 64 * blocks;
+    let outcome = |answer: &str, all: &[T], state: [i32; 2]| {
+        let of = Some(blocks.to_string()).filter(|_| fits);
+        let answer = format!("{}: {answer}", of.unwrap_or("unfitting".into()));
+        let given = format!("{bytes} bytes, {samples} samples");
+        (call, answer, given, [numbers(all), state.to_vec()].concat())
+    };
+
+    let mut state = AdpcmImaState {
+        predictor,
+        step_index,
+    };
+    let taken = fits && blocks <= 1024;
+    let (done, all) = lent(len, |out| taken.then(|| rust(&mut state, out)));
+    let answer = done.map_or(REFUSALS[2], |()| "done");
+    let state = [state.predictor.into(), state.step_index.into()];
+    let expected = outcome(answer, &all, state);
+
+    let mut state = sprettuhol::AdpcmImaState {
+        predictor,
+        step_index,
+    };
+    let (answer, all) = lent(len, |out| binding(&mut state, out));
+    let answer = told(answer.map(|()| "done"));
+    let state = [state.predictor.into(), state.step_index.into()];
+    (expected, outcome(&answer, &all, state))
+}
+
+/// A block at random, or what the Rust's encoder makes of samples, if it takes them.
+fn repack(seed: u64) -> Both {
+    let random = &mut Random::new(seed);
+    let (block_len, samples_len) = lengths(random);
+    let channels = pick(random, &[0, 1, 1, 1, 2, 2, 2, 3, 255]);
+    let mut block = bytes(random, block_len);
+    if pick(random, &[true, false]) {
+        let mut states = [(0, index(random)), (0, index(random))];
+        let samples = samples(random, samples_len);
+        oracle::encode(channels, &samples, &mut states, &mut block);
+    }
+    let off = pick(random, &[block_len + 1, block_len.saturating_sub(1), 0]);
+    let len = pick(random, &[block_len, block_len, block_len, off]);
+    let says = |changed| {
+        if changed {
+            "done, changed"
+        } else {
+            "done, same"
+        }
+    };
+    let outcome = |answer: &str, all: Vec<u8>| {
+        let answer = format!("{}: {answer}", sized(channels.into(), block_len));
+        let given = format!("{block_len} bytes to {len}");
+        let left = [numbers(&all), numbers(&block)].concat();
+        ("repack_adpcm_ima_ms", answer, given, left)
+    };
+
+    let mut changed = 0;
+    let by_rust = |out: &mut [_]| oracle::repack(&mut vec![], channels, &block, &mut changed, out);
+    let expected = match lent(len, by_rust) {
+        (0, all) => outcome(says(changed == 1), all),
+        (number, all) => outcome(REFUSALS[usize::from(number) - 1], all),
+    };
+    let (answer, all) = lent(len, |out| repack_adpcm_ima_ms(channels, &block, out));
+    (expected, outcome(&told(answer.map(says)), all))
+}
+
+/// The same samples again, or one of them moved, or others, or of another length.
+fn loss(seed: u64) -> Both {
+    let random = &mut Random::new(seed);
+    let (long, short) = (131_062 + below(random, 3), pick(random, &[0, 1, 2, 300]));
+    let len = if below(random, 16) == 0 { long } else { short };
+    let before = samples(random, len);
+    let mut after = before.clone();
+    match below(random, 4) {
+        0 => after = samples(random, len),
+        1 if len > 0 => after[below(random, len)] = sample(random),
+        2 => after.resize(pick(random, &[len + 1, len / 2]), 0),
+        _ => {}
+    }
+    let of = match before.len() == after.len() {
+        true if len > 131_063 => "long",
+        true => "equal",
+        false => "unequal",
+    };
+    let says = |report: Loss| ["done, moved", "done, same"][usize::from(report.count == 0)];
+    let outcome = |answer: &str, report: Option<Loss>| {
+        let given = format!("{len} and {} samples, {report:?}", after.len());
+        ("loss_report", format!("{of}: {answer}"), given, vec![])
+    };
+
+    let (count, first, peak) = plain::loss(&before, &after);
+    let first = (first != plain::NONE).then_some(first);
+    let report = Loss { count, first, peak };
+    let expected = match of {
+        "equal" => outcome(says(report), Some(report)),
+        _ => outcome(REFUSALS[1], None),
+    };
+    let answer = loss_report(&before, &after);
+    (expected, outcome(&told(answer.map(says)), answer.ok()))
+}

@@ -1,0 +1,134 @@
+//! Makes the same calls at random with audio_codec_algorithms and with the proved library in its place,
+//! from one source that is compiled with each (../calls.rs), and compares all that they leave. The calls
+//! that the binding adds are held to the Rust too (beyond.rs). Any difference fails the run, and so does
+//! an answer that never came.
+
+mod beyond;
+#[path = "../../differential/src/ms/oracle.rs"]
+mod oracle;
+#[path = "../../differential/src/loss/plain.rs"]
+mod plain;
+
+use calls_rust::{Outcome, KINDS};
+use std::collections::{BTreeMap, BTreeSet};
+use std::process::ExitCode;
+
+/// Of each call one for each seed from 1 to this.
+const SEEDS: u64 = 6_000;
+/// So many differences of a call are printed. All are counted.
+const PRINTED: u64 = 3;
+
+/// Each call; and all the answers that have to come, behind what each of them has to come for.
+const ANSWERS: [(&str, Answers); KINDS + beyond::CALLS.len()] = [
+    ("decode_alaw", &[("any", DONE)]),
+    ("encode_alaw", &[("any", DONE)]),
+    ("decode_ulaw", &[("any", DONE)]),
+    ("encode_ulaw", &[("any", DONE)]),
+    ("decode_adpcm_ima", &[("any", DONE)]),
+    ("encode_adpcm_ima", &[("any", DONE)]),
+    ("AdpcmImaState", &[("any", DONE)]),
+    ("decode_adpcm_ima_ima4", &[("any", DONE)]),
+    ("encode_adpcm_ima_ima4", &[("any", DONE)]),
+    ("decode_adpcm_ima_ms", &[(TAKEN, DONE), (TAKEN, SIZE)]),
+    (
+        "encode_adpcm_ima_ms",
+        &[(TAKEN, DONE), (TAKEN, SIZE), (OTHERS, "InvalidChannels 1")],
+    ),
+    ("decode_adpcm_ima_ima4_run", &beyond::RUNS),
+    ("encode_adpcm_ima_ima4_run", &beyond::RUNS),
+    ("repack_adpcm_ima_ms", &beyond::REPACKINGS),
+    ("loss_report", &beyond::LOSSES),
+];
+type Answers = &'static [(&'static str, &'static str)];
+const DONE: &str = "done";
+const SIZE: &str = "InvalidBufferSize 2";
+/// Channel numbers, of short blocks and of long ones.
+const TAKEN: &str = "1 | 1 long | 2 | 2 long";
+const OTHERS: &str = "0 | 0 long | 3 | 3 long | 255 | 255 long | 256 | 256 long | \
+    257 | 257 long | 258 | 258 long";
+
+/// How often there was each answer to a call, and how often the two sides differed.
+#[derive(Default)]
+struct Tally {
+    answers: BTreeMap<(&'static str, String), u64>,
+    differ: u64,
+}
+
+fn main() -> ExitCode {
+    println!("calls at random, each with the seeds 1 to {SEEDS}");
+    let twice = |kind, seed| (calls_rust::call(kind, seed), calls_proved::call(kind, seed));
+    let tallies = (0..KINDS).map(|kind| tally(|seed| twice(kind, seed)));
+    let tallies = tallies.chain(beyond::CALLS.map(tally));
+    // all of them are gone through, so that a call which differs hides no other
+    let held = tallies.zip(ANSWERS).filter(holds).count();
+    println!("{held} of {} calls hold", ANSWERS.len());
+    if one_line() && held == ANSWERS.len() {
+        return ExitCode::SUCCESS;
+    }
+    ExitCode::FAILURE
+}
+
+/// What is expected and what the binding did, for every seed.
+fn tally(both: impl Fn(u64) -> (Outcome, Outcome)) -> Tally {
+    let mut tally = Tally::default();
+    for seed in 1..=SEEDS {
+        let (expected, binding) = both(seed);
+        if expected != binding {
+            tally.differ += 1;
+            if tally.differ <= PRINTED {
+                show(seed, &expected, &binding);
+            }
+        }
+        let answer = (expected.0, expected.1);
+        *tally.answers.entry(answer).or_default() += 1;
+    }
+    tally
+}
+
+/// Of the numbers that were left, where the first differs.
+fn show(seed: u64, expected: &Outcome, binding: &Outcome) {
+    let mut pairs = expected.3.iter().zip(&binding.3);
+    let place = pairs.position(|(expected, binding)| expected != binding);
+    for (side, (call, answer, given, left)) in [("expected", expected), ("binding", binding)] {
+        let number = place.map(|place| (place, left[place]));
+        println!("seed {seed}, {side}: {call} of {given}: {answer}, (place, number) {number:?}");
+    }
+}
+
+fn holds((tally, (call, answers)): &(Tally, (&'static str, Answers))) -> bool {
+    let done = tally
+        .answers
+        .iter()
+        .filter(|((_, answer), _)| answer.contains("done"));
+    let accepted: u64 = done.map(|(_, count)| count).sum();
+    let (compared, differ) = (tally.answers.values().sum::<u64>(), tally.differ);
+    let refused = compared - accepted;
+    println!(
+        "{call:<26}{compared} compared, {accepted} accepted, {refused} refused, {differ} differ"
+    );
+    let came: BTreeSet<_> = tally.answers.keys().cloned().collect();
+    let each = |&(all, answer): &(&'static str, &'static str)| {
+        let all = all.split(" | ");
+        all.map(move |of| (*call, format!("{of}: {answer}")))
+    };
+    let due: BTreeSet<_> = answers.iter().flat_map(each).collect();
+    for answer in came.symmetric_difference(&due) {
+        println!("    {answer:?} never came, or was not due");
+    }
+    differ == 0 && came == due
+}
+
+/// Of the manifests by which calls.rs is compiled twice, the package's name differs, and one line.
+fn one_line() -> bool {
+    let rust = include_str!("../rust/Cargo.toml");
+    let proved = include_str!("../proved/Cargo.toml");
+    let pairs = rust.lines().zip(proved.lines());
+    let changed: Vec<_> = pairs.filter(|(rust, proved)| rust != proved).collect();
+    let keys = changed.iter().map(|(line, _)| line.split(" = ").next());
+    let held = rust.lines().count() == proved.lines().count()
+        && keys.eq(["name", "audio-codec-algorithms"].map(Some));
+    for (from, to) in changed {
+        println!("{from} became {to}");
+    }
+    held
+}
