@@ -1,5 +1,5 @@
-//! Links the proved library, libsprettuhol.a: the one in the folder that SPRETTUHOL_LIB_DIR names, or else in
-//! target/staticlib of the repository that this crate stands in, where tools/archive writes it.
+//! Links the proved library, libsprettuhol.a: the one in the folder that SPRETTUHOL_LIB_DIR names, or
+//! else in target/staticlib of the repository that this crate stands in, where tools/archive writes it.
 
 use std::env::var_os;
 use std::path::{Path, PathBuf};

@@ -4,14 +4,14 @@ use crate::ffi;
 
 /// The state of an IMA ADPCM encoder or decoder.
 ///
-/// It starts at zero or from values of the audio stream, as the format has it, and travels with every cut: the
-/// same nibbles from another state are other samples.
+/// It starts at zero or from values of the audio stream, as the format has it, and travels with every
+/// cut: the same nibbles from another state are other samples.
 #[derive(Debug, Clone, PartialEq)]
 pub struct AdpcmImaState {
     /// The last sample, as it was decoded.
     pub predictor: i16,
-    /// The place of the step in the step table, 0 to 88. Every number is taken; one above 88 is read as 88, but
-    /// where a function says that the raw number counts.
+    /// The place of the step in the step table, 0 to 88. Every number is taken; one above 88 is read as
+    /// 88, but where a function says that the raw number counts.
     pub step_index: u8,
 }
 
@@ -60,7 +60,8 @@ pub fn decode_adpcm_ima(encoded_nibble: u8, state: &mut AdpcmImaState) -> i16 {
     ffi::decode_adpcm_ima(encoded_nibble, &mut state.predictor, &mut state.step_index)
 }
 
-/// The nibble of a sample, in the lowest four bits; the others are 0. The next state takes the place of `state`.
+/// The nibble of a sample, in the lowest four bits; the others are 0. The next state takes the place of
+/// `state`.
 ///
 /// Every sample and every state is taken.
 ///

@@ -1,5 +1,5 @@
-//! The C interface of the proved library, as safe functions. All that is unsafe is here. tests/differential and
-//! bench use this file too, so that what is compared and timed is the layer that is shipped.
+//! The C interface of the proved library, as safe functions; nothing outside of this file is unsafe.
+//! tests/differential and bench use it too, so that what they compare and time is what is shipped.
 
 mod c {
     extern "C" {

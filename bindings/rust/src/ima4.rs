@@ -5,10 +5,11 @@ use crate::{ffi, AdpcmImaState};
 
 /// Decodes one ima4 block, all of `out_samples`. The next state takes the place of `state`.
 ///
-/// A block is two header bytes, the top nine bits of a predictor and seven bits of an index, and 64 nibbles. The
-/// decoder keeps the state that it is given if its index, as it is, equals the header's, lowered to 88, and its
-/// predictor is within 127 of the header's; otherwise it takes both from the header. So hand it the state of the
-/// block before, and the zero state for the first. Nothing is refused.
+/// A block is two header bytes, the top nine bits of a predictor and seven bits of an index, and 64
+/// nibbles. The decoder keeps the state that it is given if its index, as it is, equals the header's,
+/// lowered to 88, and its predictor is within 127 of the header's; otherwise it takes both from the
+/// header. So hand it the state of the block before, and the zero state for the first. Nothing is
+/// refused.
 ///
 /// ```
 /// use sprettuhol::{decode_adpcm_ima_ima4, AdpcmImaState};
@@ -35,8 +36,8 @@ pub fn decode_adpcm_ima_ima4(
 
 /// Encodes 64 samples to one ima4 block, all of `out_buf`. The next state takes the place of `state`.
 ///
-/// Hand it the state of the block before, and the zero state for the first. An index above 88 is lowered before
-/// it is written. Nothing is refused.
+/// Hand it the state of the block before, and the zero state for the first. An index above 88 is
+/// lowered before it is written. Nothing is refused.
 ///
 /// ```
 /// use sprettuhol::{encode_adpcm_ima_ima4, AdpcmImaState};
@@ -62,16 +63,16 @@ pub fn encode_adpcm_ima_ima4(
     debug_assert_eq!(done, Ok(()), "one block by its type is not refused");
 }
 
-/// Decodes a run of 0 to 1,024 ima4 blocks, each from the state that the one before it left. The last state takes
-/// the place of `state`; a run of no blocks leaves it as it was.
+/// Decodes a run of 0 to 1,024 ima4 blocks, each from the state that the one before it left. The last
+/// state takes the place of `state`; a run of no blocks leaves it as it was.
 ///
-/// Decoding a run is decoding its first blocks, and then the others from the state that is left: a cut that
-/// carries the state moves no sample, and one that forgets it does.
+/// Decoding a run is decoding its first blocks, and then the others from the state that is left: a cut
+/// that carries the state moves no sample, and one that forgets it does.
 ///
 /// # Errors
 ///
-/// [`Refusal::Blocks`], if `buf` is not 34 bytes a block, `out_samples` not 64 samples a block, or there are over
-/// 1,024 blocks. Then `out_samples` and `state` are as they were.
+/// [`Refusal::Blocks`], if `buf` is not 34 bytes a block, `out_samples` not 64 samples a block, or
+/// there are over 1,024 blocks. Then `out_samples` and `state` are as they were.
 ///
 /// ```
 /// use sprettuhol::{decode_adpcm_ima_ima4_run, encode_adpcm_ima_ima4_run, AdpcmImaState, Refusal};
@@ -107,13 +108,13 @@ pub fn decode_adpcm_ima_ima4_run(
     answer(ffi::decode_ima4(buf, predictor, step_index, out_samples))
 }
 
-/// Encodes a run of 0 to 1,024 ima4 blocks, each from the state that the one before it left. The last state takes
-/// the place of `state`; a run of no blocks leaves it as it was.
+/// Encodes a run of 0 to 1,024 ima4 blocks, each from the state that the one before it left. The last
+/// state takes the place of `state`; a run of no blocks leaves it as it was.
 ///
 /// # Errors
 ///
-/// [`Refusal::Blocks`], if `samples` is not 64 samples a block, `out_buf` not 34 bytes a block, or there are over
-/// 1,024 blocks. Then `out_buf` and `state` are as they were.
+/// [`Refusal::Blocks`], if `samples` is not 64 samples a block, `out_buf` not 34 bytes a block, or
+/// there are over 1,024 blocks. Then `out_buf` and `state` are as they were.
 ///
 /// ```
 /// use sprettuhol::{encode_adpcm_ima_ima4_run, AdpcmImaState, Refusal};

@@ -1,5 +1,5 @@
-//! Proved audio codecs: G.711 mu-law and A-law, and IMA ADPCM by the nibble, in ima4 blocks and in MS (WAV)
-//! blocks.
+//! Proved audio codecs: G.711 mu-law and A-law, and IMA ADPCM by the nibble, in ima4 blocks and in MS
+//! (WAV) blocks.
 //!
 //! ```
 //! use sprettuhol::decode_adpcm_ima_ms;
@@ -12,8 +12,8 @@
 //!
 //! # In the place of audio-codec-algorithms
 //!
-//! What that crate, in version 0.8.1, has of G.711 and of IMA ADPCM is here by the same names and with the same
-//! signatures. A caller changes one line of Cargo.toml, and nothing else:
+//! What that crate, in version 0.8.1, has of G.711 and of IMA ADPCM is here by the same names and with
+//! the same signatures. A caller changes one line of Cargo.toml, and nothing else:
 //!
 //! ```toml
 //! audio-codec-algorithms = { package = "sprettuhol", path = ".../bindings/rust" }
@@ -23,22 +23,22 @@
 //!
 //! # What is added
 //!
-//! Runs of ima4 blocks ([`decode_adpcm_ima_ima4_run`], [`encode_adpcm_ima_ima4_run`]), repacking of MS blocks
-//! ([`repack_adpcm_ima_ms`]) and the loss report ([`loss_report`]). They answer a [`Refusal`] where the ported
-//! calls answer an [`Error`].
+//! Runs of ima4 blocks ([`decode_adpcm_ima_ima4_run`], [`encode_adpcm_ima_ima4_run`]), repacking of MS
+//! blocks ([`repack_adpcm_ima_ms`]) and the loss report ([`loss_report`]). They answer a [`Refusal`]
+//! where the ported calls answer an [`Error`].
 //!
 //! # What is proved
 //!
-//! The library behind these functions is: every call ends, is defined for all inputs, and answers what a short
-//! definition says. It looks at every length and channel number itself; this crate hands them on as they are, and
-//! turns the number that comes back into a `Result`. What is refused is not begun: no buffer and no state is
-//! written then. This crate itself is not proved; all that is unsafe in it is one file, the calls over the C
-//! interface.
+//! The library behind these functions is: every call ends, is defined for all inputs, and answers what
+//! a short definition says. It looks at every length and channel number itself; this crate hands them
+//! on as they are, and turns the number that comes back into a `Result`. What is refused is not begun:
+//! no buffer and no state is written then. This crate itself is not proved; all that is unsafe in it is
+//! one file, the calls over the C interface.
 //!
 //! # Linking
 //!
-//! The build script links libsprettuhol.a from target/staticlib of the repository, where tools/archive writes it,
-//! or from the folder whose whole path is in the environment variable `SPRETTUHOL_LIB_DIR`.
+//! The build script links libsprettuhol.a from target/staticlib of the repository, where tools/archive
+//! writes it, or from the folder whose whole path is in the environment variable `SPRETTUHOL_LIB_DIR`.
 
 #![no_std]
 #![deny(missing_docs, unsafe_code)]

@@ -3,10 +3,11 @@
 use crate::refusal::answer;
 use crate::{ffi, AdpcmImaState, Error};
 
-/// Decodes an MS block, all of `out_samples`. Samples of two channels are interleaved, the left one first.
+/// Decodes an MS block, all of `out_samples`. Samples of two channels are interleaved, the left one
+/// first.
 ///
-/// A block decodes by itself: each channel starts from its own four header bytes, predictor, index and a byte that
-/// is not looked at. An index above 88 is read as 88.
+/// A block decodes by itself: each channel starts from its own four header bytes, predictor, index and
+/// a byte that is not looked at. An index above 88 is read as 88.
 ///
 /// | | one channel | two channels, `is_stereo` |
 /// |---|---|---|
@@ -41,16 +42,19 @@ pub fn decode_adpcm_ima_ms(
     Ok(answer(ffi::decode_ms(channels, buf, out_samples))?)
 }
 
-/// Encodes samples to an MS block, all of `out_buf`. The next states take the place of `states`, of which there are
-/// as many as channels, 1 or 2. Samples of two channels are interleaved, the left one first.
+/// Encodes samples to an MS block, all of `out_buf`. The next states take the place of `states`, of
+/// which there are as many as channels, 1 or 2. Samples of two channels are interleaved, the left one
+/// first.
 ///
-/// The lengths are those of [`decode_adpcm_ima_ms`]. Hand it the states of the block before, and zero states for
-/// the first: the header takes the index as it is, even one above 88, and for its predictor the first sample.
+/// The lengths are those of [`decode_adpcm_ima_ms`]. Hand it the states of the block before, and zero
+/// states for the first: the header takes the index as it is, even one above 88, and for its predictor
+/// the first sample.
 ///
 /// # Errors
 ///
-/// [`Error::InvalidChannels`] for any other number of states, and after that [`Error::InvalidBufferSize`] for any
-/// other length. Then `out_buf` and all of `states` are as they were.
+/// [`Error::InvalidChannels`] for any other number of states, and after that
+/// [`Error::InvalidBufferSize`] for any other length. Then `out_buf` and all of `states` are as they
+/// were.
 ///
 /// ```
 /// use sprettuhol::{encode_adpcm_ima_ms, AdpcmImaState, Error};
@@ -81,7 +85,7 @@ pub fn encode_adpcm_ima_ms(
     states: &mut [AdpcmImaState],
     out_buf: &mut [u8],
 ) -> Result<(), Error> {
-    // more states than the number can say are 255, which is refused as well; cut to its low bits, 257 would be 1
+    // over 255 states are told as 255, which is refused as well; wrapped, 257 of them would be 1
     let channels = u8::try_from(states.len()).unwrap_or(u8::MAX);
     // the library is lent two of each, of one channel too; a state that is not there is zero
     let [left, right] = [0, 1].map(|channel| states.get(channel).cloned().unwrap_or_default());

@@ -7,9 +7,9 @@ use core::fmt;
 pub enum Refusal {
     /// 1: the channel number is not 1 or 2.
     Channels,
-    /// 2: a length breaks the rules of MS blocks or of the loss report, or two lengths do not fit each other.
+    /// 2: a length breaks the rules of MS blocks or of the loss report, or two lengths do not fit.
     Lengths,
-    /// 3: of ima4, bytes that are not 34 a block, samples that are not 64 a block, or over 1,024 blocks.
+    /// 3: of ima4, not 34 bytes a block, not 64 samples a block, or over 1,024 blocks.
     Blocks,
 }
 
@@ -82,8 +82,8 @@ pub(crate) fn answer(number: u8) -> Result<(), Refusal> {
         0 => Ok(()),
         1 => Err(Refusal::Channels),
         3 => Err(Refusal::Blocks),
-        // 2. It is proved that there is no other number. If there were, nobody could rely on what was written, so
-        // it must not pass for done
+        // 2. It is proved that there is no other number. If there were, nobody could rely on what was
+        // written, so it must not pass for done
         _ => Err(Refusal::Lengths),
     }
 }

@@ -3,20 +3,21 @@
 use crate::ffi;
 use crate::refusal::{answer, Refusal};
 
-/// Repacks an MS block: decodes it and encodes the samples again, from the indices of its own header, each above
-/// 88 taken as 88. Writes all of `out`, and answers whether any byte is another than in `block`.
+/// Repacks an MS block: decodes it and encodes the samples again, from the indices of its own header,
+/// each above 88 taken as 88. Writes all of `out`, and answers whether any byte is another than in
+/// `block`.
 ///
-/// `false` says that the block is one that the encoder writes, from some samples and indices of 0 to 88. `true`
-/// says that it is not. The samples may be the same all the same: decode both, and ask [`loss_report`].
+/// `false`: the block is one that the encoder writes, from some samples and from indices of 0 to 88.
+/// `true`: it is not. Its samples may be the same all the same; decode both, and ask [`loss_report`].
 /// Repacking a second time changes nothing.
 ///
 /// [`loss_report`]: crate::loss_report
 ///
 /// # Errors
 ///
-/// [`Refusal::Channels`], if `channels` is not 1 or 2; after that [`Refusal::Lengths`], if `block` has a length that
-/// [`decode_adpcm_ima_ms`](crate::decode_adpcm_ima_ms) does not take, or `out` another one than `block`. Then `out`
-/// is as it was.
+/// [`Refusal::Channels`], if `channels` is not 1 or 2; after that [`Refusal::Lengths`], if `block` has
+/// a length that [`decode_adpcm_ima_ms`](crate::decode_adpcm_ima_ms) does not take, or `out` another
+/// one than `block`. Then `out` is as it was.
 ///
 /// ```
 /// use sprettuhol::{repack_adpcm_ima_ms, Refusal};

@@ -14,7 +14,7 @@ type Both = (Outcome, Outcome);
 
 pub const CALLS: [fn(u64) -> Both; 4] = [decode_run, encode_run, repack, loss];
 
-/// All answers, behind the numbers of blocks, the channel numbers, or what the lengths are.
+/// All answers, after the numbers of blocks, the channel numbers, or what the lengths are.
 pub const RUNS: [(&str, &str); 2] = [
     ("0 | 1 | 2 | 7 | 1024", "done"),
     ("1025 | unfitting", REFUSALS[2]),
@@ -47,10 +47,10 @@ fn told(answer: Result<&str, Refusal>) -> String {
 /// Half of the time the blocks are the Rust's own, at whose headers the state is kept.
 fn decode_run(seed: u64) -> Both {
     let random = &mut Random::new(seed);
-    let run = run_lengths(random);
-    let mut buf = bytes(random, run.1);
+    let run @ (_, bytes_len, samples_len) = run_lengths(random);
+    let mut buf = bytes(random, bytes_len);
     if pick(random, &[true, false]) {
-        let samples = samples(random, run.1 / 34 * 64);
+        let samples = samples(random, bytes_len / 34 * 64);
         encode_blocks(&samples, &mut AdpcmImaState::new(), &mut buf);
     }
     let binding = |state: &mut _, out: &mut [_]| decode_adpcm_ima_ima4_run(&buf, state, out);
@@ -59,30 +59,18 @@ fn decode_run(seed: u64) -> Both {
             decode_adpcm_ima_ima4(block.try_into().unwrap(), state, out.try_into().unwrap());
         }
     };
-    both_runs(
-        "decode_adpcm_ima_ima4_run",
-        random,
-        run,
-        run.2,
-        rust,
-        binding,
-    )
+    let call = "decode_adpcm_ima_ima4_run";
+    both_runs(call, random, run, samples_len, rust, binding)
 }
 
 fn encode_run(seed: u64) -> Both {
     let random = &mut Random::new(seed);
-    let run = run_lengths(random);
-    let samples = samples(random, run.2);
+    let run @ (_, bytes_len, samples_len) = run_lengths(random);
+    let samples = samples(random, samples_len);
     let binding = |state: &mut _, out: &mut [_]| encode_adpcm_ima_ima4_run(&samples, state, out);
     let rust = |state: &mut _, out: &mut [_]| encode_blocks(&samples, state, out);
-    both_runs(
-        "encode_adpcm_ima_ima4_run",
-        random,
-        run,
-        run.1,
-        rust,
-        binding,
-    )
+    let call = "encode_adpcm_ima_ima4_run";
+    both_runs(call, random, run, bytes_len, rust, binding)
 }
 
 fn encode_blocks(samples: &[i16], state: &mut AdpcmImaState, out: &mut [u8]) {
@@ -116,7 +104,7 @@ fn both_runs<T: Copy + From<u8> + Into<i32>>(
     let (predictor, step_index) = (sample(random), index(random));
     let fits = bytes == 34 * blocks && samples == 64 * blocks;
     let outcome = |answer: &str, all: &[T], state: [i32; 2]| {
-        let of = Some(blocks.to_string()).filter(|_| fits);
+        let of = fits.then(|| blocks.to_string());
         let answer = format!("{}: {answer}", of.unwrap_or("unfitting".into()));
         let given = format!("{bytes} bytes, {samples} samples");
         (call, answer, given, [numbers(all), state.to_vec()].concat())
@@ -155,13 +143,7 @@ fn repack(seed: u64) -> Both {
     }
     let off = pick(random, &[block_len + 1, block_len.saturating_sub(1), 0]);
     let len = pick(random, &[block_len, block_len, block_len, off]);
-    let says = |changed| {
-        if changed {
-            "done, changed"
-        } else {
-            "done, same"
-        }
-    };
+    let says = |changed| ["done, same", "done, changed"][usize::from(changed)];
     let outcome = |answer: &str, all: Vec<u8>| {
         let answer = format!("{}: {answer}", sized(channels.into(), block_len));
         let given = format!("{block_len} bytes to {len}");
@@ -197,7 +179,7 @@ fn loss(seed: u64) -> Both {
         true => "equal",
         false => "unequal",
     };
-    let says = |report: Loss| ["done, moved", "done, same"][usize::from(report.count == 0)];
+    let says = |report: Loss| ["done, same", "done, moved"][usize::from(report.count > 0)];
     let outcome = |answer: &str, report: Option<Loss>| {
         let given = format!("{len} and {} samples, {report:?}", after.len());
         ("loss_report", format!("{of}: {answer}"), given, vec![])

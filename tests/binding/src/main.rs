@@ -18,7 +18,7 @@ const SEEDS: u64 = 6_000;
 /// So many differences of a call are printed. All are counted.
 const PRINTED: u64 = 3;
 
-/// Each call; and all the answers that have to come, behind what each of them has to come for.
+/// Each call; and all the answers that have to come, each after what it has to come for.
 const ANSWERS: [(&str, Answers); KINDS + beyond::CALLS.len()] = [
     ("decode_alaw", &[("any", DONE)]),
     ("encode_alaw", &[("any", DONE)]),
@@ -96,17 +96,18 @@ fn show(seed: u64, expected: &Outcome, binding: &Outcome) {
 }
 
 fn holds((tally, (call, answers)): &(Tally, (&'static str, Answers))) -> bool {
-    let done = tally
-        .answers
-        .iter()
-        .filter(|((_, answer), _)| answer.contains("done"));
+    let Tally {
+        answers: came,
+        differ,
+    } = tally;
+    let done = came.iter().filter(|((_, answer), _)| answer.contains(DONE));
     let accepted: u64 = done.map(|(_, count)| count).sum();
-    let (compared, differ) = (tally.answers.values().sum::<u64>(), tally.differ);
+    let compared: u64 = came.values().sum();
     let refused = compared - accepted;
     println!(
-        "{call:<26}{compared} compared, {accepted} accepted, {refused} refused, {differ} differ"
+        "{call:<26}{compared} compared: {accepted} accepted, {refused} refused; {differ} differ"
     );
-    let came: BTreeSet<_> = tally.answers.keys().cloned().collect();
+    let came: BTreeSet<_> = came.keys().cloned().collect();
     let each = |&(all, answer): &(&'static str, &'static str)| {
         let all = all.split(" | ");
         all.map(move |of| (*call, format!("{of}: {answer}")))
@@ -115,7 +116,7 @@ fn holds((tally, (call, answers)): &(Tally, (&'static str, Answers))) -> bool {
     for answer in came.symmetric_difference(&due) {
         println!("    {answer:?} never came, or was not due");
     }
-    differ == 0 && came == due
+    *differ == 0 && came == due
 }
 
 /// Of the manifests by which calls.rs is compiled twice, the package's name differs, and one line.
