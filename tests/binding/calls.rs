@@ -38,7 +38,15 @@ pub const KINDS: usize = CALLS.len();
 
 /// One call of a kind, at random.
 pub fn call(kind: usize, seed: u64) -> Outcome {
-    CALLS[kind](&mut Random::new(seed))
+    CALLS[kind](&mut random(seed))
+}
+
+/// Of seeds that stand next to each other the numbers go together, so their bits are mixed first.
+pub fn random(seed: u64) -> Random {
+    let mixed = seed.wrapping_mul(0x9e37_79b9_7f4a_7c15);
+    let mixed = (mixed ^ mixed >> 30).wrapping_mul(0xbf58_476d_1ce4_e5b9);
+    let mixed = (mixed ^ mixed >> 27).wrapping_mul(0x94d0_49bb_1331_11eb);
+    Random::new(mixed ^ mixed >> 31)
 }
 
 const CALLS: [fn(&mut Random) -> Outcome; 11] = [
@@ -93,7 +101,8 @@ fn decode_ima4(random: &mut Random) -> Outcome {
     let given = format!("{states:?}");
     let mut block = [0; 34];
     block.fill_with(|| byte(random));
-    if pick(random, &[true, false]) {
+    let content = pick(random, &["random", "encoded"]);
+    if content == "encoded" {
         encode_adpcm_ima_ima4(&samples_64(random), &mut states[1].clone(), &mut block);
     }
     let decode = |out: &mut [_]| {
@@ -101,7 +110,7 @@ fn decode_ima4(random: &mut Random) -> Outcome {
     };
     let ((), all) = lent(64, decode);
     let left = [plain(&all), plain(&block), both(&states)].concat();
-    ("decode_adpcm_ima_ima4", done(), given, left)
+    ("decode_adpcm_ima_ima4", told(content, Ok(())), given, left)
 }
 
 fn encode_ima4(random: &mut Random) -> Outcome {
@@ -121,13 +130,14 @@ fn decode_ms(random: &mut Random) -> Outcome {
     let (block_len, samples_len) = lengths(random);
     let channels = pick(random, &[1, 2]);
     let mut block = bytes(random, block_len);
-    if pick(random, &[true, false]) {
+    let content = pick(random, &["random", "encoded"]);
+    if content == "encoded" {
         let (samples, mut states) = (samples(random, samples_len), states(random, channels));
         encode_adpcm_ima_ms(&samples, &mut states, &mut block).ok();
     }
     let decode = |out: &mut [_]| decode_adpcm_ima_ms(&block, channels == 2, out);
     let (answer, all) = lent(samples_len, decode);
-    let answer = told(&sized(channels, block_len), answer);
+    let answer = told(&format!("{} {content}", sized(channels, block_len)), answer);
     let given = format!("{block_len} bytes, {samples_len} samples");
     let left = [plain(&all), plain(&block)].concat();
     ("decode_adpcm_ima_ms", answer, given, left)
@@ -235,7 +245,8 @@ pub fn pick<T: Copy>(random: &mut Random, choices: &[T]) -> T {
 }
 
 pub fn below(random: &mut Random, most: usize) -> usize {
-    random.next().unwrap() as usize % most
+    // by the upper bits, for the lower ones have more of an order
+    (u64::from(random.next().unwrap()) * most as u64 >> 32) as usize
 }
 
 pub fn plain<T: Copy + Into<i32>>(values: &[T]) -> Vec<i32> {

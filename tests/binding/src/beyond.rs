@@ -4,8 +4,8 @@
 
 use crate::{oracle, plain};
 use audio_codec_algorithms::{decode_adpcm_ima_ima4, encode_adpcm_ima_ima4, AdpcmImaState};
-use calls_rust::{below, bytes, index, lengths, lent, pick, sample, samples, signal::Random};
-use calls_rust::{plain as numbers, sized, Outcome};
+use calls_rust::{below, bytes, index, lengths, lent, pick, random, sample, samples};
+use calls_rust::{plain as numbers, signal::Random, sized, Outcome};
 use sprettuhol::{decode_adpcm_ima_ima4_run, encode_adpcm_ima_ima4_run, repack_adpcm_ima_ms};
 use sprettuhol::{loss_report, Loss, Refusal};
 
@@ -44,12 +44,12 @@ fn told(answer: Result<&str, Refusal>) -> String {
     answer.map_or_else(words, String::from)
 }
 
-/// Half of the time the blocks are the Rust's own, at whose headers the state is kept.
+/// Every second time the blocks are the Rust's own, at whose headers the state is kept.
 fn decode_run(seed: u64) -> Both {
-    let random = &mut Random::new(seed);
+    let random = &mut random(seed);
     let run @ (_, bytes_len, samples_len) = run_lengths(random);
     let mut buf = bytes(random, bytes_len);
-    if pick(random, &[true, false]) {
+    if seed % 2 == 0 {
         let samples = samples(random, bytes_len / 34 * 64);
         encode_blocks(&samples, &mut AdpcmImaState::new(), &mut buf);
     }
@@ -64,7 +64,7 @@ fn decode_run(seed: u64) -> Both {
 }
 
 fn encode_run(seed: u64) -> Both {
-    let random = &mut Random::new(seed);
+    let random = &mut random(seed);
     let run @ (_, bytes_len, samples_len) = run_lengths(random);
     let samples = samples(random, samples_len);
     let binding = |state: &mut _, out: &mut [_]| encode_adpcm_ima_ima4_run(&samples, state, out);
@@ -132,7 +132,7 @@ fn both_runs<T: Copy + From<u8> + Into<i32>>(
 
 /// A block at random, or what the Rust's encoder makes of samples, if it takes them.
 fn repack(seed: u64) -> Both {
-    let random = &mut Random::new(seed);
+    let random = &mut random(seed);
     let (block_len, samples_len) = lengths(random);
     let channels = pick(random, &[0, 1, 1, 1, 2, 2, 2, 3, 255]);
     let mut block = bytes(random, block_len);
@@ -163,7 +163,7 @@ fn repack(seed: u64) -> Both {
 
 /// The same samples again, or one of them moved, or others, or of another length.
 fn loss(seed: u64) -> Both {
-    let random = &mut Random::new(seed);
+    let random = &mut random(seed);
     let (long, short) = (131_062 + below(random, 3), pick(random, &[0, 1, 2, 300]));
     let len = if below(random, 16) == 0 { long } else { short };
     let before = samples(random, len);

@@ -27,9 +27,9 @@ const ANSWERS: [(&str, Answers); KINDS + beyond::CALLS.len()] = [
     ("decode_adpcm_ima", &[("any", DONE)]),
     ("encode_adpcm_ima", &[("any", DONE)]),
     ("AdpcmImaState", &[("any", DONE)]),
-    ("decode_adpcm_ima_ima4", &[("any", DONE)]),
+    ("decode_adpcm_ima_ima4", &[("random | encoded", DONE)]),
     ("encode_adpcm_ima_ima4", &[("any", DONE)]),
-    ("decode_adpcm_ima_ms", &[(TAKEN, DONE), (TAKEN, SIZE)]),
+    ("decode_adpcm_ima_ms", &[(BLOCKS, DONE), (BLOCKS, SIZE)]),
     (
         "encode_adpcm_ima_ms",
         &[(TAKEN, DONE), (TAKEN, SIZE), (OTHERS, "InvalidChannels 1")],
@@ -44,6 +44,8 @@ const DONE: &str = "done";
 const SIZE: &str = "InvalidBufferSize 2";
 /// Channel numbers, of short blocks and of long ones.
 const TAKEN: &str = "1 | 1 long | 2 | 2 long";
+const BLOCKS: &str = "1 random | 1 long random | 2 random | 2 long random | \
+    1 encoded | 1 long encoded | 2 encoded | 2 long encoded";
 const OTHERS: &str = "0 | 0 long | 3 | 3 long | 255 | 255 long | 256 | 256 long | \
     257 | 257 long | 258 | 258 long";
 
