@@ -63,10 +63,10 @@ pub use ms::{decode_adpcm_ima_ms, encode_adpcm_ima_ms};
 pub use refusal::{Error, Refusal};
 pub use repacking::repack_adpcm_ima_ms;
 
-// until the guide's blocks are fenced
-// #[cfg(doctest)]
-// #[doc = include_str!("../../../docs/GUIDE.md")]
-// pub struct Guide;
-// #[cfg(doctest)]
-// #[doc = include_str!("../../../README.md")]
-// pub struct Readme;
+// Every piece of Rust in the two documents is run with the examples.
+#[cfg(doctest)]
+#[doc = include_str!("../../../docs/GUIDE.md")]
+pub struct Guide;
+#[cfg(doctest)]
+#[doc = include_str!("../../../README.md")]
+pub struct Readme;
