@@ -1,0 +1,76 @@
+//! Asks other software what it makes of the same bytes and samples, and prints a Markdown table of how
+//! that differs from ours, or one of times. tools/peers starts it, and finds the software.
+
+mod codec;
+#[path = "../../differential/src/ffi.rs"]
+mod ffi;
+mod laws;
+mod ours;
+mod peer;
+mod rows;
+mod rules;
+#[path = "../../differential/src/signal.rs"]
+mod signal;
+mod times;
+
+use peer::Peer;
+use rows::Row;
+use std::process::ExitCode;
+
+/// The words: what to print (table, each for one that merges nothing, or times), the folder for files,
+/// then of each peer its kind, program and name. One with no program is not installed.
+fn main() -> ExitCode {
+    let words: Vec<String> = std::env::args().skip(1).collect();
+    std::env::set_current_dir(&words[1]).expect("there is a folder for files");
+    let ours = Peer::new(&["ours", "ours", "Sprettuhol"].map(String::from));
+    let peers: Vec<Peer> = words[2..].chunks_exact(3).map(Peer::new).collect();
+    if words[0] == "times" {
+        times::print(&ours, &peers);
+        return ExitCode::SUCCESS;
+    }
+    print(&ours, &peers, words[0] == "each")
+}
+
+/// Fails if our own rows differ, or a peer's that decode the laws, of which all do the same.
+fn print(ours: &Peer, peers: &[Peer], each: bool) -> ExitCode {
+    println!(
+        "| peer | codec | direction | inputs | compared | differ | largest | where it differs |"
+    );
+    println!("|---|---|---|---|---:|---:|---:|---|");
+    let mut wrong = 0;
+    for peer in peers {
+        if peer.program.is_empty() {
+            println!("| {} | | | | | | | not installed |", peer.name);
+            continue;
+        }
+        let rows = rows::rows(peer);
+        wrong += rows
+            .iter()
+            .filter(|row| row.must_agree() && row.differ > 0)
+            .count();
+        for row in if each { rows } else { merged(rows) } {
+            row.print(&peer.name);
+        }
+    }
+    let rows = rows::rows(ours);
+    let count = rows.len();
+    for row in rows.into_iter().filter(|row| row.differ > 0) {
+        row.print(&ours.name);
+        wrong += 1;
+    }
+    println!();
+    println!("Our own answers to the {count} questions, through the same files, and the laws decoded by all: {wrong} wrong.");
+    ExitCode::from(u8::from(wrong > 0))
+}
+
+/// Rows that say the same of a codec and direction become one.
+fn merged(rows: Vec<Row>) -> Vec<Row> {
+    let mut merged: Vec<Row> = Vec::new();
+    for row in rows {
+        match merged.iter_mut().find(|earlier| earlier.like(&row)) {
+            Some(earlier) => earlier.add(row),
+            None => merged.push(row),
+        }
+    }
+    merged
+}

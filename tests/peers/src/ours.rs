@@ -1,0 +1,71 @@
+//! The proved library, on whole streams.
+
+use crate::codec::{Codec, Coded};
+use crate::ffi;
+
+pub fn decode(codec: Codec, coded: &Coded) -> Vec<i16> {
+    let blocks = coded.bytes.len() / coded.block;
+    let mut samples = vec![0; blocks * codec.samples(coded.block)];
+    decode_into(codec, coded, &mut samples);
+    samples
+}
+
+/// As many whole blocks as there are samples for.
+pub fn encode(codec: Codec, samples: &[i16], block: usize) -> Coded {
+    let bytes = vec![0; samples.len() / codec.samples(block) * block];
+    let mut coded = Coded { bytes, block };
+    encode_into(codec, samples, &mut coded);
+    coded
+}
+
+/// How many blocks a call takes: of codes all, one at a time.
+fn together(codec: Codec) -> usize {
+    match codec {
+        Codec::Ms(_) => 1,
+        Codec::Ima4 => 1024,
+        _ => usize::MAX,
+    }
+}
+
+pub fn decode_into(codec: Codec, coded: &Coded, samples: &mut [i16]) {
+    let Coded { bytes, block } = coded;
+    let (most, each) = (together(codec), codec.samples(*block));
+    let (mut predictor, mut index) = (0, 0);
+    let places = samples.chunks_mut(most.saturating_mul(each));
+    for (bytes, samples) in bytes.chunks(most.saturating_mul(*block)).zip(places) {
+        done(match codec {
+            Codec::Ulaw => law(bytes, samples, ffi::decode_ulaw),
+            Codec::Alaw => law(bytes, samples, ffi::decode_alaw),
+            Codec::Ms(channels) => ffi::decode_ms(channels, bytes, samples),
+            Codec::Ima4 => ffi::decode_ima4(bytes, &mut predictor, &mut index, samples),
+        });
+    }
+}
+
+/// Each block from the state behind the one before.
+pub fn encode_into(codec: Codec, samples: &[i16], coded: &mut Coded) {
+    let Coded { bytes, block } = coded;
+    let (most, each) = (together(codec), codec.samples(*block));
+    let (mut predictors, mut indices) = ([0; 2], [0; 2]);
+    let samples = &samples[..bytes.len() / *block * each];
+    let runs = samples.chunks(most.saturating_mul(each));
+    for (run, bytes) in runs.zip(bytes.chunks_mut(most.saturating_mul(*block))) {
+        done(match codec {
+            Codec::Ulaw => law(run, bytes, ffi::encode_ulaw),
+            Codec::Alaw => law(run, bytes, ffi::encode_alaw),
+            Codec::Ms(wide) => ffi::encode_ms(wide, run, &mut predictors, &mut indices, bytes),
+            Codec::Ima4 => ffi::encode_ima4(run, &mut predictors[0], &mut indices[0], bytes),
+        });
+    }
+}
+
+fn law<I: Copy, O>(from: &[I], to: &mut [O], call: impl Fn(I) -> O) -> u8 {
+    for (to, &from) in to.iter_mut().zip(from) {
+        *to = call(from);
+    }
+    0
+}
+
+pub fn done(refusal: u8) {
+    assert_eq!(refusal, 0, "our library refused what was to be compared");
+}
