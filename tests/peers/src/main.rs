@@ -33,9 +33,7 @@ fn main() -> ExitCode {
 
 /// Fails if our own rows differ, or a peer's that decode the laws, of which all do the same.
 fn print(ours: &Peer, peers: &[Peer], each: bool) -> ExitCode {
-    println!(
-        "| peer | codec | direction | inputs | compared | differ | largest | where it differs |"
-    );
+    println!("| peer | codec | direction | inputs | compared | differ | by at most | why |");
     println!("|---|---|---|---|---:|---:|---:|---|");
     let mut wrong = 0;
     for peer in peers {
@@ -44,22 +42,20 @@ fn print(ours: &Peer, peers: &[Peer], each: bool) -> ExitCode {
             continue;
         }
         let rows = rows::rows(peer);
-        wrong += rows
-            .iter()
-            .filter(|row| row.must_agree() && row.differ > 0)
-            .count();
+        let laws = rows.iter().filter(|row| row.decodes_a_law());
+        wrong += laws.filter(|row| row.differs()).count();
         for row in if each { rows } else { merged(rows) } {
             row.print(&peer.name);
         }
     }
     let rows = rows::rows(ours);
     let count = rows.len();
-    for row in rows.into_iter().filter(|row| row.differ > 0) {
+    for row in rows.into_iter().filter(Row::differs) {
         row.print(&ours.name);
         wrong += 1;
     }
     println!();
-    println!("Our own answers to the {count} questions, through the same files, and the laws decoded by all: {wrong} wrong.");
+    println!("Our own {count} rows, through the same files, and each peer's two of laws decoded: {wrong} wrong.");
     ExitCode::from(u8::from(wrong > 0))
 }
 

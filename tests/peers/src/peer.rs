@@ -61,13 +61,11 @@ impl Peer {
     pub fn encode(&self, codec: Codec, samples: &[i16], block: usize) -> Coded {
         self.put(&bytes_of(samples));
         self.run(Way::Encode, codec, block, 1);
-        match &self.kind[..] {
-            "spandsp" => Coded {
-                bytes: self.got(),
-                block,
-            },
-            _ => codec.read(&self.got()),
+        let bytes = self.got();
+        if bytes.is_empty() || self.kind == "spandsp" {
+            return Coded { bytes, block };
         }
+        codec.read(&bytes)
     }
 
     pub fn put_coded(&self, codec: Codec, coded: &Coded) {
@@ -161,10 +159,11 @@ impl Peer {
 }
 
 pub fn bytes_of(samples: &[i16]) -> Vec<u8> {
-    samples
-        .iter()
-        .flat_map(|sample| sample.to_le_bytes())
-        .collect()
+    let mut bytes = vec![0; 2 * samples.len()];
+    for (bytes, sample) in bytes.chunks_exact_mut(2).zip(samples) {
+        bytes.copy_from_slice(&sample.to_le_bytes());
+    }
+    bytes
 }
 
 fn samples_of(bytes: &[u8]) -> Vec<i16> {

@@ -18,9 +18,13 @@ pub struct Row {
 }
 
 impl Row {
-    /// All decoders of the laws give the same samples.
-    pub fn must_agree(&self) -> bool {
+    pub fn decodes_a_law(&self) -> bool {
         self.way == "decode" && matches!(self.codec, Codec::Ulaw | Codec::Alaw)
+    }
+
+    /// Nothing compared is no agreement.
+    pub fn differs(&self) -> bool {
+        self.differ > 0 || self.compared == 0
     }
 
     pub fn like(&self, other: &Row) -> bool {
@@ -36,19 +40,14 @@ impl Row {
     }
 
     pub fn print(&self, peer: &str) {
-        let Row {
-            way,
-            inputs,
-            unit,
-            words,
-            ..
-        } = self;
         let [compared, differ] = [self.compared, self.differ].map(grouped);
-        let peak = self
-            .peak
-            .map_or(String::new(), |peak| grouped(peak as usize));
-        let codec = self.codec.name();
-        println!("| {peer} | {codec} | {way} | {inputs} | {compared} {unit} | {differ} | {peak} | {words} |");
+        let peak = self.peak.map(|peak| grouped(peak as usize));
+        let asked = [self.codec.name(), self.way, &self.inputs].join(" | ");
+        print!(
+            "| {peer} | {asked} | {compared} {} | {differ} | ",
+            self.unit
+        );
+        println!("{} | {} |", peak.unwrap_or_default(), self.words);
     }
 }
 
@@ -91,11 +90,9 @@ fn contents(codec: Codec) -> Vec<(&'static str, Vec<i16>)> {
         (0..FRAMES).flat_map(frame).collect::<Vec<i16>>()
     };
     let (speech, noise) = (wide(speech), wide(noise));
-    let clipped = speech
-        .iter()
-        .map(|sample| sample.saturating_mul(4))
-        .collect();
+    let loud = speech.iter().map(|sample| sample.saturating_mul(4));
     let faint = noise.iter().map(|sample| sample >> 13).collect();
+    let clipped = loud.collect();
     vec![
         ("speech", speech),
         ("noise", noise),
@@ -225,17 +222,12 @@ fn repack(codec: Codec, name: &str, theirs: &Coded) -> Vec<Row> {
     }
     let none = vec![0; changes.len()];
     let reason = || {
-        let explained = found.iter().map(|found| u8::from(found.contains(&true)));
-        let words = [
-            "it writes nibble 8 at step 7",
-            "it writes nibbles that pass the limits",
-        ];
-        let words = (0..2)
-            .filter(|&n| found.iter().any(|found| found[n]))
-            .map(|n| words[n]);
-        explained
-            .eq(changes.iter().copied())
-            .then(|| words.collect::<Vec<_>>().join("; "))
+        let words = ["nibble 8 at step 7", "nibbles that pass the limits"];
+        let words = [0, 1].map(|n| found.iter().any(|found| found[n]).then_some(words[n]));
+        let words: Vec<&str> = words.into_iter().flatten().collect();
+        let has_any = found.iter().map(|found| u8::from(found.contains(&true)));
+        let right = has_any.eq(changes.iter().copied());
+        right.then(|| format!("has what ours never writes: {}", words.join(", ")))
     };
     let row = |way, unit| row((codec, way, name, unit), (&none, &changes), reason);
     let mut rows = vec![row("encode, then repacked by us", "blocks")];

@@ -20,7 +20,7 @@ const WORDS: [&str; 6] = [
     "the magnitude m moves by floor (2m+1)s/8",
     "the right header has the left channel's first sample",
     "an index above 88 is read as 0",
-    "a block with an index above 88 is left out, as is all behind it in the same packet (4,096 bytes of MS blocks, one ima4 block)",
+    "a block with an index above 88 is left out, and of MS blocks the rest of the same 4,096 bytes",
     "every block starts from its header, none from the state before it",
 ];
 

@@ -11,7 +11,12 @@ const LONG: usize = 8_000_000;
 const SHORT: usize = LONG / 8;
 
 pub fn print(ours: &Peer, peers: &[Peer]) {
-    println!("Nanoseconds a sample of {LONG} speech-like ones, the best of {RUNS} runs.");
+    println!(
+        "Nanoseconds a sample, of {LONG} speech-like ones of one channel, the best of {RUNS} runs."
+    );
+    println!("Of a command, on one thread, what each sample behind the first {SHORT} adds, the reading and");
+    println!("writing of files included, and of ours the same. Of a library its calls in memory, libsndfile's");
+    println!("with the file's headers, and of ours the plain calls.");
     println!();
     println!("| peer | codec | direction | what is timed | peer | ours |");
     println!("|---|---|---|---|---:|---:|");
@@ -30,7 +35,7 @@ pub fn print(ours: &Peer, peers: &[Peer]) {
                     ("calls, in memory", calls(peer, codec, way, &samples))
                 } else {
                     (
-                        "file to file, one thread",
+                        "a command, files and all",
                         [peer, ours].map(|peer| slope(peer, codec, way, &samples)),
                     )
                 };
