@@ -6,19 +6,10 @@ use std::fs;
 use std::process::{Command, Stdio};
 use std::time::Instant;
 
-#[derive(Clone, Copy, PartialEq)]
+#[derive(Clone, Copy, Debug)]
 pub enum Way {
     Decode,
     Encode,
-}
-
-impl Way {
-    pub fn name(self) -> &'static str {
-        match self {
-            Way::Decode => "decode",
-            Way::Encode => "encode",
-        }
-    }
 }
 
 pub struct Peer {
@@ -152,8 +143,7 @@ impl Peer {
             }
             ("sox", Way::Decode) => format!("-D -V1 -t {sox} in {raw} out"),
             ("sox", Way::Encode) => format!("-D -V1 {raw} in -t {sox} {ima} out"),
-            (_, Way::Decode) => format!("decode {library} {channels} {block} in out {runs}"),
-            (_, Way::Encode) => format!("encode {library} {channels} {block} in out {runs}"),
+            _ => format!("{way:?} {library} {channels} {block} in out {runs}").to_lowercase(),
         }
     }
 }

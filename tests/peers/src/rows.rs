@@ -222,7 +222,7 @@ fn repack(codec: Codec, name: &str, theirs: &Coded) -> Vec<Row> {
     }
     let none = vec![0; changes.len()];
     let reason = || {
-        let words = ["nibble 8 at step 7", "nibbles that pass the limits"];
+        let words = ["nibble 8 at step 7", "nibbles out of reach at a limit"];
         let words = [0, 1].map(|n| found.iter().any(|found| found[n]).then_some(words[n]));
         let words: Vec<&str> = words.into_iter().flatten().collect();
         let has_any = found.iter().map(|found| u8::from(found.contains(&true)));

@@ -156,7 +156,8 @@ fn step(index: u8) -> i32 {
     from_lowest(4) - from_lowest(0)
 }
 
-/// Whether a block has nibbles that our encoder does not write there: 8 at step 7, and any others.
+/// Whether a block has nibbles that our encoder does not write there: 8 at step 7, and others, of which
+/// all clip, by the law of reach.
 pub fn unwritten(channels: usize, block: &[u8]) -> [bool; 2] {
     let mut found = [false; 2];
     for channel in 0..channels {

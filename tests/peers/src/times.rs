@@ -26,28 +26,24 @@ pub fn print(ours: &Peer, peers: &[Peer]) {
             println!("| {} | | | not installed | | |", peer.name);
             continue;
         }
-        for codec in CODECS
-            .into_iter()
-            .filter(|&codec| peer.has(codec) && codec.channels() == 1)
-        {
-            for way in [Way::Decode, Way::Encode] {
-                let (form, [theirs, ours]) = if peer.is_library() {
-                    ("calls, in memory", calls(peer, codec, way, &samples))
-                } else {
-                    (
-                        "a command, files and all",
-                        [peer, ours].map(|peer| slope(peer, codec, way, &samples)),
-                    )
-                };
-                println!(
-                    "| {} | {} | {} | {form} | {theirs:.2} | {ours:.2} |",
-                    peer.name,
-                    codec.name(),
-                    way.name()
-                );
-            }
+        let mono = |codec: &Codec| peer.has(*codec) && codec.channels() == 1;
+        let codecs = CODECS.into_iter().filter(mono);
+        for (codec, way) in codecs.flat_map(|codec| [(codec, Way::Decode), (codec, Way::Encode)]) {
+            row(ours, peer, codec, way, &samples);
         }
     }
+}
+
+fn row(ours: &Peer, peer: &Peer, codec: Codec, way: Way, samples: &[i16]) {
+    let (form, [theirs, ours]) = match peer.is_library() {
+        true => ("calls in memory", calls(peer, codec, way, samples)),
+        false => (
+            "file to file",
+            [peer, ours].map(|peer| slope(peer, codec, way, samples)),
+        ),
+    };
+    let asked = format!("{} | {way:?} | {form}", codec.name()).to_lowercase();
+    println!("| {} | {asked} | {theirs:.2} | {ours:.2} |", peer.name);
 }
 
 /// What each further sample adds, so that the start of a program counts for nothing.
