@@ -102,28 +102,36 @@ fn chunk(file: &[u8], name: &[u8; 4], number: fn([u8; 4]) -> u32) -> Vec<u8> {
 
 /// The rate is 22,050 samples a second.
 fn wav(channels: u32, blocks: u32, block: u32) -> Vec<u8> {
-    let [riff, wave, fmt, fact, data] =
-        [b"RIFF", b"WAVE", b"fmt ", b"fact", b"data"].map(|name| u32::from_le_bytes(*name));
     let (len, frames) = (blocks * block, 2 * block / channels - 7);
+    let bytes = |numbers: &[u32]| -> Vec<u8> {
+        let bytes = numbers.iter().map(|number| number.to_le_bytes());
+        bytes.flatten().collect()
+    };
+    let pair = |low: u32, high: u32| (high << 16) | low;
     let rates = [22_050, 22_050 * block / frames];
-    let halves = |low: u32, high: u32| high << 16 | low;
-    let format = [halves(0x11, channels), rates[0], rates[1]];
-    let sizes = [halves(block, 4), halves(2, frames)];
-    let head = [&[riff, 52 + len, wave, fmt, 20][..], &format, &sizes];
-    let tail = [&[fact, 4, blocks * frames][..], &[data, len]];
-    let words = [head.concat(), tail.concat()].concat();
-    words.into_iter().flat_map(u32::to_le_bytes).collect()
+    let sizes = [pair(block, 4), pair(2, frames)];
+    let format = [&[20, pair(0x11, channels)][..], &rates, &sizes].concat();
+    let head = [
+        &b"RIFF"[..],
+        &bytes(&[52 + len]),
+        b"WAVEfmt ",
+        &bytes(&format),
+    ];
+    let fact = [&b"fact"[..], &bytes(&[4, blocks * frames])];
+    let data = [&b"data"[..], &bytes(&[len])];
+    [head.concat(), fact.concat(), data.concat()].concat()
 }
 
 /// The number of frames is that of blocks, as QuickTime has it, and the rate an 80-bit float.
 fn aifc(blocks: u32) -> Vec<u8> {
     let len = 34 * blocks;
-    let numbers = [(b"FORM", 52 + len, &b"AIFC"[..]), (b"COMM", 24, &[0, 1])];
-    let start = numbers.map(|(name, size, rest)| [&name[..], &size.to_be_bytes(), rest].concat());
+    let form = [&b"FORM"[..], &(52 + len).to_be_bytes(), b"AIFC"];
     let common = [
-        &blocks.to_be_bytes()[..],
-        b"\0\x10\x40\x0d\xac\x44\0\0\0\0\0\0ima4\0\0",
+        &b"COMM\0\0\0\x18\0\x01"[..],
+        &blocks.to_be_bytes(),
+        b"\0\x10",
     ];
+    let rate = b"\x40\x0d\xac\x44\0\0\0\0\0\0ima4\0\0".to_vec();
     let sound = [&b"SSND"[..], &(8 + len).to_be_bytes(), &[0; 8]];
-    [start.concat(), common.concat(), sound.concat()].concat()
+    [form.concat(), common.concat(), rate, sound.concat()].concat()
 }

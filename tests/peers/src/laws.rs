@@ -3,9 +3,11 @@
 use crate::codec::Codec;
 use crate::ffi;
 
+type Encode = fn(Codec, i16) -> u8;
+
 /// Computed here, so that a reason is only given where it yields the peer's code of every sample.
 pub fn reason(codec: Codec, samples: &[i16], theirs: &[u8]) -> Option<&'static str> {
-    let rules: [(&str, fn(Codec, i16) -> u8); 4] = [
+    let rules: [(&str, Encode); 4] = [
         ("negates a negative, then shifts", negated),
         (
             "takes the nearest decoded sample, after a shift by 2",
@@ -19,7 +21,7 @@ pub fn reason(codec: Codec, samples: &[i16], theirs: &[u8]) -> Option<&'static s
             |codec, sample| negated(codec, rounded(codec, sample)),
         ),
     ];
-    let codes = |rule: fn(Codec, i16) -> u8| samples.iter().map(move |&sample| rule(codec, sample));
+    let codes = |rule: Encode| samples.iter().map(move |&sample| rule(codec, sample));
     let mut rules = rules.into_iter();
     let found = rules.find(|(_, rule)| codes(*rule).eq(theirs.iter().copied()));
     found.map(|(words, _)| words)

@@ -13,6 +13,7 @@ mod rules;
 mod signal;
 mod times;
 
+use codec::CODECS;
 use peer::Peer;
 use rows::Row;
 use std::process::ExitCode;
@@ -47,6 +48,9 @@ fn print(ours: &Peer, peers: &[Peer], each: bool) -> ExitCode {
         for row in if each { rows } else { merged(rows) } {
             row.print(&peer.name);
         }
+        for codec in CODECS.into_iter().filter(|&codec| !peer.has(codec)) {
+            println!("| {} | {} | | | | | | none |", peer.name, codec.name());
+        }
     }
     let rows = rows::rows(ours);
     let count = rows.len();
@@ -54,6 +58,10 @@ fn print(ours: &Peer, peers: &[Peer], each: bool) -> ExitCode {
         row.print(&ours.name);
         wrong += 1;
     }
+    println!();
+    println!("A reason is given where, computed, it yields all of the peer's answers in its row. The step is s, the");
+    println!("lowest three bits of a nibble m, and d how far a sample is from the predictor. The peers' MS encoders");
+    println!("choose the blocks' length; ours takes it from them.");
     println!();
     println!("Our own {count} rows, through the same files, and each peer's two of laws decoded: {wrong} wrong.");
     ExitCode::from(u8::from(wrong > 0))

@@ -28,7 +28,7 @@ impl Row {
     }
 
     pub fn like(&self, other: &Row) -> bool {
-        let key = |row: &Row| (row.codec.name(), row.way, row.words.clone());
+        let key = |row: &Row| (row.codec.name(), row.way, row.unit, row.words.clone());
         key(self) == key(other)
     }
 
@@ -137,7 +137,7 @@ fn codes(codec: Codec) -> Vec<(&'static str, Coded)> {
 
 fn set_index(codec: Codec, block: &mut [u8], channel: usize, index: u8) {
     match codec {
-        Codec::Ima4 => block[1] = block[1] & 0x80 | index,
+        Codec::Ima4 => block[1] = (block[1] & 0x80) | index,
         _ => block[4 * channel + 2..][..2].copy_from_slice(&[index, 0]),
     }
 }
@@ -229,15 +229,16 @@ fn repack(codec: Codec, name: &str, theirs: &Coded) -> Vec<Row> {
         let right = has_any.eq(changes.iter().copied());
         right.then(|| format!("has what ours never writes: {}", words.join(", ")))
     };
-    let row = |way, unit| row((codec, way, name, unit), (&none, &changes), reason);
-    let mut rows = vec![row("encode, then repacked by us", "blocks")];
+    let way = "encode, then repacked by us";
+    let row = |unit| row((codec, way, name, unit), (&none, &changes), reason);
+    let mut rows = vec![row("blocks")];
     if rows[0].differ > 0 {
         let (compared, peak) = (none.len() * codec.samples(block), Some(peak));
         rows.push(Row {
             compared,
             differ: moved,
             peak,
-            ..row("what that moves", "samples")
+            ..row("samples")
         });
     }
     rows

@@ -139,7 +139,7 @@ impl Rule {
         let (mut predictor, mut next) = (before, index);
         ffi::decode_adpcm_ima(nibble, &mut predictor, &mut next);
         if self.has(PRODUCT) {
-            let by = (2 * i32::from(nibble & 7) + 1) * step(index) >> 3;
+            let by = ((2 * i32::from(nibble & 7) + 1) * step(index)) >> 3;
             let sum = i32::from(before) + if nibble & 8 == 0 { by } else { -by };
             predictor = sum.clamp(-32768, 32767) as i16;
         }
@@ -189,5 +189,5 @@ fn place(channels: usize, channel: usize, n: usize) -> (usize, usize) {
 
 fn nibble_of(block: &[u8], channels: usize, channel: usize, n: usize) -> u8 {
     let (byte, shift) = place(channels, channel, n);
-    block[byte] >> shift & 15
+    (block[byte] >> shift) & 15
 }

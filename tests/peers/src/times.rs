@@ -42,7 +42,8 @@ fn row(ours: &Peer, peer: &Peer, codec: Codec, way: Way, samples: &[i16]) {
             [peer, ours].map(|peer| slope(peer, codec, way, samples)),
         ),
     };
-    let asked = format!("{} | {way:?} | {form}", codec.name()).to_lowercase();
+    let way = format!("{way:?}").to_lowercase();
+    let asked = [codec.name(), &way, form].join(" | ");
     println!("| {} | {asked} | {theirs:.2} | {ours:.2} |", peer.name);
 }
 
