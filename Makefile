@@ -1,14 +1,15 @@
-# The four things to do here. Each is one command; the work is in tools/.
+# The five things to do here. Each is one command; the work is in tools/.
 SHELL := bash
 .SHELLFLAGS := -o pipefail -c
 RUST := cargo run --release --offline --locked --manifest-path
 
-.PHONY: help demo test bench exhaustive
+.PHONY: help demo test bench peers exhaustive
 
 help:
 	@echo 'make demo        prove the program repack, if it is not proved yet, and run it on a record'
 	@echo 'make test        every test: all proofs from nothing, then all that is run'
 	@echo 'make bench       time the proved library against the Rust that it replaces'
+	@echo 'make peers       ask other software, if it is installed, what it makes of the same bytes'
 	@echo 'make exhaustive  compare the proved library with the Rust on all inputs, for as long as it takes'
 
 # Of what rt says, a line for each crate; target/log/NAME.out has it all.
@@ -22,6 +23,11 @@ test:
 
 bench:
 	@tools/bench
+
+# It installs nothing, and says what to type.
+peers:
+	@tools/archive >&2
+	@tools/peers
 
 # It may be stopped at any moment, and goes on from there.
 exhaustive:

@@ -1,5 +1,5 @@
-//! The build script of the Rust crates that call proved code (tests/differential, bench): links the
-//! archives of target/staticlib that the crate calls, which tools/archive writes for this machine.
+//! The build script of the Rust crates that call proved code (tests/differential, tests/peers, bench):
+//! links the archives of target/staticlib that the crate calls, which tools/archive writes for this machine.
 
 use std::path::Path;
 

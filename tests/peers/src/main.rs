@@ -2,7 +2,7 @@
 //! that differs from ours, or one of times. tools/peers starts it, and finds the software.
 
 mod codec;
-#[path = "../../differential/src/ffi.rs"]
+#[path = "../../../bindings/rust/src/ffi.rs"]
 mod ffi;
 mod laws;
 mod ours;
