@@ -6,8 +6,9 @@
 //! once before the first round, and nobody clears them.
 //!
 //! All rows are timed in turn, round by round, and both sides of a row in turn, so that what else the
-//! machine does falls on all. The best round counts: what disturbs a run only ever makes it longer, and
-//! may stay for seconds.
+//! machine does falls on all. In every other round the Rust comes first: whoever does finds the input far
+//! away, for the other rows have been there since. The best round counts: what disturbs a run only ever
+//! makes it longer, and may stay for seconds.
 
 use crate::best::Best;
 use std::hint::black_box;
@@ -80,10 +81,17 @@ pub fn round<'a, A, S: Default, B: Clone + Default + PartialEq + 'a>(
 
     let passes = LEAST.div_ceil(samples);
     let samples = (passes * samples) as f64;
+    let mut ours_first = false;
     move || {
-        let ours = run(passes, (input, from), (&mut output, to), &ours);
-        let rust = run(passes, (input, from), (&mut output, to), &rust);
-        (ours / samples, rust / samples)
+        let ours = |output: &mut [B]| run(passes, (input, from), (output, to), &ours) / samples;
+        let rust = |output: &mut [B]| run(passes, (input, from), (output, to), &rust) / samples;
+        ours_first = !ours_first;
+        if ours_first {
+            (ours(&mut output), rust(&mut output))
+        } else {
+            let rust = rust(&mut output);
+            (ours(&mut output), rust)
+        }
     }
 }
 

@@ -61,7 +61,7 @@ fn look(before: &[i16], after: &[i16]) -> All
     let mut alike = 0;
     let mut at = 0;
     while at < n {
-        let end = lesser(at + 512, n);
+        let end = lesser(at + 128, n);
         let seen = stretch(&before[at..end], &after[at..end]);
         count += seen.count as u32;
         largest = larger(largest, seen.largest as u32);
