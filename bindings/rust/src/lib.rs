@@ -31,9 +31,9 @@
 //!
 //! The library behind these functions is: every call ends, is defined for all inputs, and answers what
 //! a short definition says. It looks at every length and channel number itself; this crate hands them
-//! on as they are, and turns the number that comes back into a `Result`. What is refused is not begun:
-//! no buffer and no state is written then. This crate itself is not proved; all that is unsafe in it is
-//! one file, the calls over the C interface.
+//! on as they are, and turns the number that comes back into a `Result`. What is refused changes nothing,
+//! no buffer and no state. This crate itself is not proved; all that is unsafe in it is one file, the
+//! calls over the C interface.
 //!
 //! # Linking
 //!

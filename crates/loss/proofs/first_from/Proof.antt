@@ -1,7 +1,6 @@
 -- `loss::first_from` meets its contract: as long as no place differs, the first is the first of the rest. Assumes nothing.
 use mathlib.Core.Path.{_≡_, refl, sym, ap₂, _∙_}
 use Prim.Native.Nat.{_-_}
-use native.Mathlib.Omega.{arith}
 use lib.IntN.{pos}
 use lib.ListN.{length, getD}
 use mir.Syntax.{w16}
