@@ -1,5 +1,6 @@
 //! The C interface of the proved library, as safe functions; nothing outside of this file is unsafe.
-//! tests/differential and bench use it too, so that what they compare and time is what is shipped.
+//! tests/differential, tests/peers and bench use it too, so that what they compare and time is what is
+//! shipped.
 
 mod c {
     extern "C" {
