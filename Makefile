@@ -1,13 +1,14 @@
-# The five things to do here. Each is one command; the work is in tools/.
+# The six things to do here. Each is one command; the work is in tools/.
 SHELL := bash
 .SHELLFLAGS := -o pipefail -c
 RUST := cargo run --release --offline --locked --manifest-path
 
-.PHONY: help demo test bench peers exhaustive
+.PHONY: help demo test quick bench peers exhaustive
 
 help:
 	@echo 'make demo        prove the program repack, if it is not proved yet, and run it on a record'
 	@echo 'make test        every test: all proofs from nothing, then all that is run'
+	@echo 'make quick       no verdict, for the working day: proves what changed, and runs all but the whole domains'
 	@echo 'make bench       time the proved library against the Rust that it replaces'
 	@echo 'make peers       ask other software, if it is installed, what it makes of the same bytes'
 	@echo 'make exhaustive  compare the proved library with the Rust on all inputs, for as long as it takes'
@@ -20,6 +21,9 @@ demo:
 
 test:
 	@tools/test
+
+quick:
+	@tools/test quick
 
 bench:
 	@tools/bench

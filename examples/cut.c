@@ -1,8 +1,8 @@
 /* Three ima4 blocks are encoded as one run, and the run is decoded in two parts. If the decoder's state goes
  * over the cut, no sample moves. If the second part starts from a zeroed state, samples move, for a block's
  * header has no room for the low seven bits of the predictor. */
-#include <assert.h>
 #include <stdio.h>
+#include <stdlib.h>
 
 #include "sprettuhol.h"
 
@@ -26,11 +26,17 @@ static void speak(int16_t samples[SAMPLES])
     }
 }
 
+/* All lengths here fit. */
+static void expect_done(uint8_t refusal)
+{
+    if (refusal != SPR_DONE)
+        exit(EXIT_FAILURE);
+}
+
 static struct state decode(const uint8_t *bytes, size_t blocks, struct state from, int16_t *samples)
 {
-    uint8_t refusal = spr_decode_ima4(bytes, blocks * SPR_IMA4_BLOCK_BYTES, &from.predictor, &from.step_index,
-                                      samples, blocks * SPR_IMA4_BLOCK_SAMPLES);
-    assert(refusal == SPR_DONE);
+    expect_done(spr_decode_ima4(bytes, blocks * SPR_IMA4_BLOCK_BYTES, &from.predictor, &from.step_index,
+                                samples, blocks * SPR_IMA4_BLOCK_SAMPLES));
     return from;
 }
 
@@ -41,8 +47,7 @@ int main(void)
     int16_t spoken[SAMPLES], whole[SAMPLES], parts[SAMPLES];
     uint8_t bytes[BLOCKS * SPR_IMA4_BLOCK_BYTES];
     speak(spoken);
-    uint8_t refusal = spr_encode_ima4(spoken, SAMPLES, &end.predictor, &end.step_index, bytes, sizeof bytes);
-    assert(refusal == SPR_DONE);
+    expect_done(spr_encode_ima4(spoken, SAMPLES, &end.predictor, &end.step_index, bytes, sizeof bytes));
     decode(bytes, BLOCKS, zero, whole);
 
     for (int carry = 1; carry >= 0; carry--) {
@@ -50,8 +55,7 @@ int main(void)
         uint16_t peak;
         struct state cut = decode(bytes, 1, zero, parts);
         decode(bytes + SPR_IMA4_BLOCK_BYTES, BLOCKS - 1, carry ? cut : zero, parts + SPR_IMA4_BLOCK_SAMPLES);
-        refusal = spr_loss(whole, SAMPLES, parts, SAMPLES, &moved, &first, &peak);
-        assert(refusal == SPR_DONE && (moved == 0) == carry);
+        expect_done(spr_loss(whole, SAMPLES, parts, SAMPLES, &moved, &first, &peak));
         printf("state %s: %u of %d samples moved\n", carry ? "carried" : "zeroed", (unsigned)moved, SAMPLES);
     }
     return 0;

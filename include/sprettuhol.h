@@ -1,8 +1,10 @@
 /* The C interface of Sprettuhol, for C99 and later, and for C++11 and later.
  *
  * Sprettuhol encodes and decodes speech by the mu-law and A-law of G.711 and by IMA ADPCM: single nibbles,
- * runs of ima4 blocks, and MS blocks (WAV format 0x0011). It repacks MS blocks, and reports what differs between
- * two runs of samples. Every function is proved to meet its contract; docs/PROMISES.md has the promises.
+ * runs of ima4 blocks, and MS blocks. It repacks MS blocks, and reports what differs between two runs of samples.
+ * Every function is proved to meet its contract; docs/PROMISES.md has the promises.
+ *
+ * 'MS' is IMA ADPCM as WAV files have it, format 0x0011. It is not Microsoft ADPCM, format 0x0002.
  *
  * From the top of the repository, a program is compiled and linked by
  *
@@ -31,6 +33,9 @@
 
 #include <stddef.h>
 #include <stdint.h>
+
+/* The version of this header, 0.1.0: 10,000 for each major number, 100 for each minor one, 1 for each patch. */
+#define SPR_VERSION 100
 
 /* What the calls that can refuse return. Each number is given for its cause alone, and always then; the
  * channel number is tested before the lengths. */
@@ -61,6 +66,9 @@
 #ifdef __cplusplus
 extern "C" {
 #endif
+
+/* The version of the library that is linked. If it is not SPR_VERSION, this header is of another one. */
+uint32_t spr_version(void);
 
 /* G.711. These four take every value, and refuse nothing. */
 

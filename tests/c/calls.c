@@ -305,6 +305,7 @@ int main(void)
     noise(given_samples, sizeof given_samples);
     memcpy(first_bytes, given_bytes, sizeof given_bytes);
     memcpy(first_samples, given_samples, sizeof given_samples);
+    CHECK(spr_version() == SPR_VERSION);
     laws();
     nibbles();
     all_nibbles();

@@ -4,6 +4,8 @@
 
 mod c {
     extern "C" {
+        #[cfg(test)]
+        pub fn spr_version() -> u32;
         pub fn spr_decode_ulaw(encoded: u8) -> i16;
         pub fn spr_encode_ulaw(linear: i16) -> u8;
         pub fn spr_decode_alaw(encoded: u8) -> i16;
@@ -63,6 +65,11 @@ mod c {
 }
 
 // SAFETY of the laws: numbers in, a number out, and the proved functions ask nothing of their input.
+
+#[cfg(test)]
+pub fn version() -> u32 {
+    unsafe { c::spr_version() }
+}
 
 #[inline(always)]
 pub fn decode_ulaw(encoded: u8) -> i16 {

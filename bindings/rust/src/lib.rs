@@ -1,5 +1,5 @@
 //! Proved audio codecs: G.711 mu-law and A-law, and IMA ADPCM by the nibble, in ima4 blocks and in MS
-//! (WAV) blocks.
+//! blocks. 'MS' is IMA ADPCM as WAV files have it, format 0x0011; it is not Microsoft ADPCM, format 0x0002.
 //!
 //! ```
 //! use sprettuhol::decode_adpcm_ima_ms;
@@ -62,6 +62,17 @@ pub use loss::{loss_report, Loss};
 pub use ms::{decode_adpcm_ima_ms, encode_adpcm_ima_ms};
 pub use refusal::{Error, Refusal};
 pub use repacking::repack_adpcm_ima_ms;
+
+#[cfg(test)]
+mod tests {
+    #[test]
+    fn the_library_is_of_this_version() {
+        let version = crate::ffi::version();
+        let numbers = [version / 10_000, version / 100 % 100, version % 100];
+        let parts = env!("CARGO_PKG_VERSION").split('.').map(|part| part.parse::<u32>());
+        assert!(parts.eq(numbers.map(Ok)), "{numbers:?}");
+    }
+}
 
 // Every piece of Rust in the two documents is run with the examples.
 #[cfg(doctest)]

@@ -1,4 +1,4 @@
-//! MS blocks, WAV format 0x0011, of one channel or two.
+//! MS blocks, of one channel or two.
 
 use crate::refusal::answer;
 use crate::{ffi, AdpcmImaState, Error};

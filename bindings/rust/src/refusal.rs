@@ -3,7 +3,10 @@
 use core::fmt;
 
 /// Why a call that this crate adds was refused. Whatever the call would have written is as it was.
+///
+/// There may be more of them in a later version.
 #[derive(Debug, Clone, Copy, PartialEq, Eq, Hash)]
+#[non_exhaustive]
 pub enum Refusal {
     /// 1: the channel number is not 1 or 2.
     Channels,

@@ -1,4 +1,1 @@
-pub mod Series
-pub mod Step
-pub mod Table
 pub mod View

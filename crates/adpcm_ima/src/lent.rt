@@ -2,8 +2,8 @@
 // Both are exported as they stand, so that Rust can lend them a state too.
 use crate::AdpcmImaState;
 ghost use mathlib.Core.Path.{_≡_};
-ghost use Rattle.adpcm_ima.specs.Step.{sixteen, stepped, emitted};
-ghost use Rattle.adpcm_ima.specs.Table.{imaSteps};
+ghost use Rattle.ima_nibble.specs.Step.{sixteen, stepped, emitted};
+ghost use Rattle.ima_nibble.specs.Table.{imaSteps};
 ghost use Rattle.adpcm_ima.specs.View.{stateOf};
 
 #[no_mangle]

@@ -1,17 +1,15 @@
 // One nibble of IMA ADPCM, decoded and encoded. A state goes in by value, and the next one comes back; the two calls of `lent` are lent it.
-mod coded;
 mod lent;
-mod nibble;
-mod step;
 
+use ima_step::Wide;
 pub use lent::decode_adpcm_ima;
 pub use lent::encode_adpcm_ima;
-pub use step::Coded;
-pub use step::Wide;
 ghost use mathlib.Core.Path.{_≡_};
+ghost use Prim.Native.Nat.{_<_};
 ghost use lib.IntN.{pos};
-ghost use Rattle.adpcm_ima.specs.Step.{state, sixteen, stepped, emitted};
-ghost use Rattle.adpcm_ima.specs.Table.{imaSteps};
+ghost use Rattle.ima_nibble.specs.Step.{state, sixteen, stepped, emitted, narrow};
+ghost use Rattle.ima_nibble.specs.Table.{imaSteps};
+ghost use Rattle.ima_step.specs.View.{wideOf};
 ghost use Rattle.adpcm_ima.specs.View.{stateOf, sameState};
 
 pub const IMA_STEP_TABLE: [u16; 89] = [
@@ -155,16 +153,36 @@ impl AdpcmImaState {
         }
     }
 
+    // The state inside a block.
+    pub fn widened(self) -> Wide
+        ensures { λ r. ⌜ (wideOf r ≡ stateOf self) × (r .index < 256) ⌝ }
+    {
+        Wide {
+            predictor: self.predictor,
+            index: self.step_index as usize,
+        }
+    }
+
+    // The state behind a block. An index that came from a state or from a step is below 256.
+    pub fn narrowed(wide: Wide) -> Self
+        ensures { λ r. ⌜ stateOf r ≡ narrow (wideOf wide) ⌝ }
+    {
+        Self {
+            predictor: wide.predictor,
+            step_index: (wide.index % 256) as u8,
+        }
+    }
+
     // Only the lowest four bits of `nibble` count.
     pub fn decode(self, nibble: u8) -> Decoded
         ensures { λ r. ⌜ (stateOf (r .state) ≡ stepped sixteen imaSteps (stateOf self) nibble) × (r .sample ≡ r .state .predictor) ⌝ }
     {
         let steps = IMA_STEP_TABLE;
-        let next = Wide::of(self).moved(&steps, nibble as u32);
+        let next = self.widened().moved(&steps, nibble as u32);
         let sample = next.predictor;
         Decoded {
             sample,
-            state: next.narrowed(),
+            state: AdpcmImaState::narrowed(next),
         }
     }
 
@@ -172,12 +190,10 @@ impl AdpcmImaState {
         ensures { λ r. ⌜ (r .nibble ≡ emitted sixteen imaSteps (stateOf self) sample) × (stateOf (r .state) ≡ stepped sixteen imaSteps (stateOf self) (r .nibble)) ⌝ }
     {
         let steps = IMA_STEP_TABLE;
-        let wide = Wide::of(self);
-        let nibble = wide.nibble(&steps, sample);
-        let next = wide.moved(&steps, nibble);
+        let coded = self.widened().coded(&steps, sample);
         Encoded {
-            nibble: nibble as u8,
-            state: next.narrowed(),
+            nibble: coded.nibble as u8,
+            state: AdpcmImaState::narrowed(coded.next),
         }
     }
 }

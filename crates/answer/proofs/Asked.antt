@@ -10,7 +10,8 @@ use Rattle.record.specs.Record.{held, channelsOf, blockOf, wellFormed, readReco
 use Rattle.record.proofs.Formed.{formed, block-few, block-taken}
 use Rattle.text.specs.Text.{put}
 use Rattle.text.proofs.Behind.{put-length}
-use Rattle.answer.specs.Answer.{refused, answered, answerTo}
+use Rattle.lines.specs.Lines.{refused}
+use Rattle.answer.specs.Answer.{answered, answerTo}
 
 -- the array holds the record's block, and it is answered to
 pub record Asked (input : List ℕ) (channels n : ℕ) (xs : List ℕ) : Type 0 where

@@ -9,12 +9,13 @@ use lib.ListN.{length, take, drop, length-append, length-drop}
 use lib.Seq.{take-at, length-take-le}
 use borrow.Author.Tests.{ne-eqb, eqb-true}
 use borrow.Table.Steps.{cases}
-use Rattle.ms_layout.specs.Sizes.{samplesOf}
-use Rattle.ms_layout.proofs.Sizes.{shape}
-use Rattle.repacking.specs.Repack.{repacked, differ, answered, repackRefusal, repackBlock}
-use Rattle.repacking.proofs.Settled.{repacked-length}
-use Rattle.repacking.proofs.Theorems.{allowed}
+use Rattle.ms_block.specs.Sizes.{samplesOf}
+use Rattle.ms_block.proofs.Sizes.{shape}
+use Rattle.ms_repacked.specs.Repack.{repacked, differ, answered, repackRefusal, repackBlock}
+use Rattle.ms_repacked.proofs.Settled.{repacked-length}
+use Rattle.ms_repacked.proofs.Theorems.{allowed}
 use Rattle.text.specs.Text.{ascii, hex, line, Stands}
+use Rattle.lines.specs.Lines as Lines
 use Rattle.answer.specs.Answer as Says
 use Rattle.answer.specs.Answer.{Small, said, lossOf}
 
@@ -39,7 +40,7 @@ module _ (c : ℕ) (block out xs : List ℕ) (k : ℕ) (differs : Bool) (few : l
   number : k ≡ repackRefusal c (length block) (length block)
   number = ap (λ r. r .refusal) e ∙ refusal-is c block (take (length block) out) ∙ ap (repackRefusal c (length block)) long
 
-  pub refuses : (k ≡ 0 → ⊥) → Says.answered c block ≡ Says.refused k
+  pub refuses : (k ≡ 0 → ⊥) → Says.answered c block ≡ Lines.refused k
   unfolding Says.answered
   refuses h =
       let other : repackRefusal c (length block) (length block) ≡ 0 → ⊥ = λ z. h (number ∙ z) in

@@ -6,11 +6,11 @@ use native.Mathlib.Omega.{arith}
 use lib.IntN.{ℤ}
 use lib.ListN.{length, take, drop, length-append, length-drop}
 use lib.Seq.{take-at, length-take-le}
-use Rattle.ms_layout.specs.Sizes.{samplesOf}
-use Rattle.ms_layout.proofs.Sizes.{shape}
+use Rattle.ms_block.specs.Sizes.{samplesOf}
+use Rattle.ms_block.proofs.Sizes.{shape}
 use Rattle.ms_block.specs.Block.{decodedBlock}
 use Rattle.ms_block.specs.Call.{answered, decodeBlock}
-use Rattle.repacking.proofs.Settled.{samples-shape}
+use Rattle.ms_repacked.proofs.Settled.{samples-shape}
 use Rattle.answer.specs.Answer.{Small}
 
 module _ (c : ℕ) (block : List ℕ) (small : Small c block) where

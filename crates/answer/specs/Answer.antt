@@ -1,34 +1,18 @@
 -- What the program `repack` prints. Assumes nothing.
 use mathlib.Core.Bool.{Bool, cond}
 use mathlib.Core.List.{List, _++_}
-use mathlib.Core.Option.{Option, none, some}
 use Prim.Native.Nat.{ℕ, _≤_}
 use lib.Dec.{eqb}
 use lib.ListN.{length}
-use Rattle.ms_layout.specs.Sizes.{samplesOf, Taken}
+use Rattle.ms_block.specs.Sizes.{samplesOf, Taken}
 use Rattle.ms_block.specs.Block.{decodedBlock}
-use Rattle.repacking.specs.Repack.{repacked, differ, repackRefusal}
+use Rattle.ms_repacked.specs.Repack.{repacked, differ, repackRefusal}
 use Rattle.loss.specs.Loss.{Reported, lossReport}
-use Rattle.text.specs.Text.{ascii, hex, decimal, line}
+use Rattle.text.specs.Text.{hex, line}
+use Rattle.lines.specs.Lines.{refused, same, changed}
 use Rattle.record.specs.Record.{channelsOf, blockOf, wellFormed}
 
--- It prints `refused N`;
-abbrev pub refused : ℕ → List ℕ
-refused number = line (ascii "refused " ++ decimal number)
-
--- or `same` if no byte changed;
-abbrev pub same : List ℕ
-same = line (ascii "same")
-
--- or else `changed C first F peak P`, F being `-` if none differ,
-abbrev pub place : Option ℕ → List ℕ
-place none = ascii "-"
-place (some k) = decimal k
-
-abbrev pub changed : Reported → List ℕ
-changed r = line (ascii "changed " ++ decimal (r .count) ++ ascii " first " ++ place (r .first) ++ ascii " peak " ++ decimal (r .peak))
-
--- the loss report of old against new samples.
+-- What changed is the loss report of old against new samples.
 abbrev pub lossOf : ℕ → List ℕ → List ℕ → Reported
 lossOf c old new = lossReport (decodedBlock c old) (decodedBlock c new)
 

@@ -1,27 +1,23 @@
 // What the program `repack` answers to a record, as the bytes that it prints.
-use loss::First;
-use loss::Loss;
+pub use lines::ROOM;
+use lines::line;
+use lines::refused;
 use loss::loss_report;
-use ms::decode_adpcm_ima_ms;
+use ms_decode::decode_adpcm_ima_ms;
 use ms_layout::samples;
 use record::read;
 use repacking::repack_adpcm_ima_ms;
 use text::put;
-use text::put_decimal;
 use text::put_hex;
 ghost use mathlib.Core.Path.{_≡_};
-ghost use Prim.Native.Nat.{_+_, _*_, _≤_};
+ghost use Prim.Native.Nat.{_≤_};
 ghost use lib.ListN.{length, take};
-ghost use Rattle.loss.specs.Loss.{placeOf, reported};
 ghost use Rattle.ms_block.specs.Block.{decodedBlock};
-ghost use Rattle.ms_layout.specs.Sizes.{samplesOf};
-ghost use Rattle.text.specs.Text as Text;
+ghost use Rattle.ms_block.specs.Sizes.{samplesOf};
 ghost use Rattle.text.specs.Text.{Stands};
+ghost use Rattle.lines.specs.Lines as Lines;
 ghost use Rattle.answer.specs.Answer as Says;
 ghost use Rattle.answer.specs.Answer.{answerTo, Small};
-
-// The longest answer: three numbers of ten digits at most, among 22 other bytes, and a block of 4,096 bytes in hex.
-pub const ROOM: usize = 8245;
 
 // Puts the answer at the start of `out`, and says how long it is. That it is so long in `out` too follows; it is stated for `&out[..n]`.
 pub fn answer(input: &[u8], out: &mut [u8; ROOM]) -> usize
@@ -35,15 +31,6 @@ pub fn answer(input: &[u8], out: &mut [u8; ROOM]) -> usize
     }
     let n = record.length;
     told(record.channels, &block[..n], out)
-}
-
-// `refused N`
-fn refused(number: u8, out: &mut [u8; ROOM]) -> usize
-    ensures { λ r. ⌜ Stands (now (out .entry)) 0 (Says.refused number) r (now (out .exit)) ⌝ }
-{
-    let word = put(out, 0, b"refused ");
-    let end = put_decimal(out, word, number as u32);
-    put(out, end, b"\n")
 }
 
 // The answer to a block: what repacking made of it, and then the new block.
@@ -77,7 +64,7 @@ fn said(channels: u8, differs: bool, old: &[u8], new: &[u8], out: &mut [u8; ROOM
 // What became of the samples of a block that was repacked.
 fn changed(channels: u8, old: &[u8], new: &[u8], out: &mut [u8; ROOM]) -> usize
     requires { ⌜ Small channels (now old) × (length (now new) ≡ length (now old)) ⌝ }
-    ensures { λ r. ⌜ Stands (now (out .entry)) 0 (Says.changed (Says.lossOf channels (now (old .entry)) (now (new .entry)))) r (now (out .exit)) × (r ≤ 52) ⌝ }
+    ensures { λ r. ⌜ Stands (now (out .entry)) 0 (Lines.changed (Says.lossOf channels (now (old .entry)) (now (new .entry)))) r (now (out .exit)) × (r ≤ 52) ⌝ }
 {
     let m = samples(channels, old.len());
     let before = decoded(channels, old);
@@ -94,30 +81,6 @@ fn decoded(channels: u8, block: &[u8]) -> [i16; 8185]
     let mut out = no_samples();
     decode_adpcm_ima_ms(channels, block, &mut out[..m]);
     out
-}
-
-// `changed C first F peak P`
-fn line(loss: Loss, out: &mut [u8; ROOM]) -> usize
-    ensures { λ r. ⌜ Stands (now (out .entry)) 0 (Says.changed (reported (loss .refusal) (loss .count) (placeOf (loss .first)) (loss .peak))) r (now (out .exit)) × (r ≤ 52) ⌝ }
-{
-    let word = put(out, 0, b"changed ");
-    let count = put_decimal(out, word, loss.count);
-    let second = put(out, count, b" first ");
-    let first = loss.first;
-    let place = put_place(out, second, first);
-    let third = put(out, place, b" peak ");
-    let peak = put_decimal(out, third, loss.peak as u32);
-    put(out, peak, b"\n")
-}
-
-// A place, or `-` for none.
-fn put_place(out: &mut [u8; ROOM], at: usize, first: First) -> usize
-    ensures { λ r. ⌜ (r ≡ Text.placeAfter (now (out .entry)) at (Says.place (placeOf first))) × (now (out .exit) ≡ Text.putIn (now (out .entry)) at (Says.place (placeOf first))) × (length (Says.place (placeOf first)) ≤ 10) ⌝ }
-{
-    match first {
-        First::At(k) => put_decimal(out, at, k),
-        First::Nowhere => put(out, at, b"-"),
-    }
 }
 
 // The arrays that a block and its samples sit in. What is not written there is never read, so that their lengths are all that counts.

@@ -3,8 +3,8 @@
 // from a zeroed state has not, and its samples move.
 use crate::print::signed;
 use adpcm_ima::AdpcmImaState;
-use ima4::decode_adpcm_ima_ima4_run;
-use ima4::encode_adpcm_ima_ima4_run;
+use ima4_decode::decode_adpcm_ima_ima4_run;
+use ima4_encode::encode_adpcm_ima_ima4_run;
 use libc::STDOUT_FILENO;
 use num::lesser;
 ghost use mathlib.Core.Path.{_≡_};

@@ -2,5 +2,8 @@ pub mod Midst
 pub mod OwnBytes
 pub mod OwnSamples
 pub mod Round
+pub mod Sizes
+pub mod Table
 pub mod Theorems
 pub mod Walk
+pub mod Weave

@@ -11,9 +11,9 @@ use lib.ListN.{length, getD, set, length-set}
 use lib.Seq.{getD-set-same, getD-set-other}
 use borrow.Author.Tests.{ltb-true, ltb-false, leb-true, leb-false, eqb-true, eqb-false}
 use borrow.Table.Steps.{cases}
-use Rattle.adpcm_ima.specs.Step.{State, state}
-use Rattle.ms_layout.specs.Weave.{place, channelAt, itemAt}
-use Rattle.ms_layout.proofs.Weave.{channel-at, item-at, quotient, rest, above}
+use Rattle.ima_nibble.specs.Step.{State, state}
+use Rattle.ms_block.specs.Weave.{place, channelAt, itemAt}
+use Rattle.ms_block.proofs.Weave.{channel-at, item-at, quotient, rest, above}
 use Rattle.ms_block.specs.Block.{stateIn}
 
 -- where byte d of channel e stands, headers included

@@ -6,12 +6,12 @@ use native.Mathlib.Omega.{arith}
 use lib.IntN.{ℤ, pos}
 use lib.ListN.{length, getD, drop, length-drop}
 use lib.Seq.{getD-drop}
-use Rattle.adpcm_ima.specs.Step.{State, sixteen, stepped}
-use Rattle.adpcm_ima.specs.Table.{imaSteps}
-use Rattle.adpcm_ima.proofs.Bytes.{reads, read-low, read-high, read-next}
-use Rattle.ms_layout.specs.Header.{headed, headOf}
-use Rattle.ms_layout.proofs.Sizes.{Shape, four-bytes}
-use Rattle.ms_layout.proofs.Weave.{strand-at}
+use Rattle.ima_nibble.specs.Step.{State, sixteen, stepped}
+use Rattle.ima_nibble.specs.Table.{imaSteps}
+use Rattle.ima_nibble.proofs.Bytes.{reads, read-low, read-high, read-next}
+use Rattle.ms_block.specs.Header.{headed, headOf}
+use Rattle.ms_block.proofs.Sizes.{Shape, four-bytes}
+use Rattle.ms_block.proofs.Weave.{strand-at}
 use Rattle.ms_block.specs.Block.{decodedChannel, bytesIn}
 use Rattle.ms_block.proofs.Midst.{byte, in-group}
 

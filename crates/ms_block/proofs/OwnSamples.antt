@@ -6,9 +6,9 @@ use native.Mathlib.Omega.{arith}
 use lib.IntN.{ℤ, pos}
 use lib.ListN.{length, getD, drop, length-drop}
 use lib.Seq.{getD-drop}
-use Rattle.adpcm_ima.specs.Step.{State, sixteen, emitted}
-use Rattle.adpcm_ima.specs.Table.{imaSteps}
-use Rattle.adpcm_ima.proofs.Bytes.{writes, then, written-byte, written-next}
+use Rattle.ima_nibble.specs.Step.{State, sixteen, emitted}
+use Rattle.ima_nibble.specs.Table.{imaSteps}
+use Rattle.ima_nibble.proofs.Bytes.{writes, then, written-byte, written-next}
 use Rattle.ms_block.specs.Block.{encodedChannel}
 
 abbrev pub gives : State → ℤ → ℕ

@@ -14,15 +14,15 @@ use borrow.Table.Steps.{cases}
 use Rattle.num.specs.Lists.{from}
 use Rattle.num.proofs.Halves.{halves-back}
 use Rattle.num.proofs.Lists.{all-at, all-from, table, length-from}
-use Rattle.adpcm_ima.specs.Step.{State, state, sixteen, In}
-use Rattle.adpcm_ima.specs.Table.{imaSteps}
-use Rattle.adpcm_ima.specs.Series.{Done, Within, encoded, predictors, nibblesOf}
-use Rattle.adpcm_ima.proofs.Series.{packed-length, nibbles-length, decoded-length, encoded-length, decoded-lowered, decodes-back, encoded-unpacked}
-use Rattle.ms_layout.specs.Header.{headOf}
-use Rattle.ms_layout.specs.Sizes.{most, samplesOf, bytesOf, refusalOf}
-use Rattle.ms_layout.specs.Weave.{place, channelAt, itemAt, strand, woven}
-use Rattle.ms_layout.proofs.Sizes.{Shape, four-bytes, samples-each, even-samples}
-use Rattle.ms_layout.proofs.Weave.{woven-length, strand-length, unwoven}
+use Rattle.ima_nibble.specs.Step.{State, state, sixteen, In}
+use Rattle.ima_nibble.specs.Table.{imaSteps}
+use Rattle.ima_nibble.specs.Series.{Done, Within, encoded, predictors, nibblesOf}
+use Rattle.ima_nibble.proofs.Series.{packed-length, nibbles-length, decoded-length, encoded-length, decoded-lowered, decodes-back, encoded-unpacked}
+use Rattle.ms_block.specs.Header.{headOf}
+use Rattle.ms_block.specs.Sizes.{most, samplesOf, bytesOf, refusalOf}
+use Rattle.ms_block.specs.Weave.{place, channelAt, itemAt, strand, woven}
+use Rattle.ms_block.proofs.Sizes.{Shape, four-bytes, samples-each, even-samples}
+use Rattle.ms_block.proofs.Weave.{woven-length, strand-length, unwoven}
 use Rattle.ms_block.specs.Block.{decodedChannel, encodedChannel, bytesIn, samplesIn, decodedBlock, stateIn, each, begunIn, begun, encodedIn, blockFrom, statesFrom, encodedBlock}
 use Rattle.ms_block.specs.Call.{encodeBlock}
 

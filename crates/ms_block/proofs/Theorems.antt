@@ -5,14 +5,14 @@ use Prim.Native.Nat.{ℕ, _<_}
 use native.Mathlib.Omega.{arith}
 use lib.IntN.{ℤ, pos}
 use lib.ListN.{length, getD}
-use Rattle.adpcm_ima.specs.Step.{State, state, sixteen}
-use Rattle.adpcm_ima.specs.Series.{Within}
-use Rattle.ms_layout.specs.Weave.{woven}
-use Rattle.ms_layout.proofs.Sizes.{Shape, shape}
-use Rattle.ms_layout.proofs.Weave.{woven-same}
+use Rattle.ima_nibble.specs.Step.{State, state, sixteen}
+use Rattle.ima_nibble.specs.Series.{Within}
+use Rattle.ms_block.specs.Weave.{woven}
+use Rattle.ms_block.proofs.Sizes.{Shape, shape}
+use Rattle.ms_block.proofs.Weave.{woven-same}
 use Rattle.ms_block.specs.Block.{decodedChannel, encodedChannel, bytesIn, samplesIn, decodedBlock, stateIn, begun, encodedBlock}
 use Rattle.ms_block.specs.Call.{answered, decodeBlock, encodeBlock}
-use Rattle.ms_layout.specs.Sizes.{Taken}
+use Rattle.ms_block.specs.Sizes.{Taken}
 use Rattle.ms_block.proofs.Round.{heard, channel-decoded, block-length, channel-begun, channel-heard}
 
 -- ---- each channel alone

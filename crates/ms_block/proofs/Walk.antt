@@ -4,8 +4,8 @@ use mathlib.Core.Path.{_≡_, ap, _∙_}
 use Prim.Native.Nat.{ℕ, suc, _+_, _-_, _*_, _/_, _≤_, _<_, min}
 use native.Mathlib.Nat.{mul-le-mul-left}
 use native.Mathlib.Omega.{arith}
-use Rattle.ms_layout.proofs.Sizes.{Shape, samples-all}
-use Rattle.ms_layout.proofs.Weave.{in-strand}
+use Rattle.ms_block.proofs.Sizes.{Shape, samples-all}
+use Rattle.ms_block.proofs.Weave.{in-strand}
 use Rattle.ms_block.proofs.Midst.{byte, in-group}
 
 -- a block of n bytes, of a length that is taken

@@ -6,12 +6,12 @@ use lib.Dec.{ltb}
 use lib.IntN.{ℤ, pos}
 use lib.ListN.{length, getD, drop}
 use Rattle.num.specs.Lists.{from}
-use Rattle.adpcm_ima.specs.Step.{State, state, sixteen}
-use Rattle.adpcm_ima.specs.Table.{imaSteps}
-use Rattle.adpcm_ima.specs.Series.{Done, done, decoded, encoded, nibblesOf, packed}
-use Rattle.ms_layout.specs.Header.{header, headOf}
-use Rattle.ms_layout.specs.Sizes.{most, samplesOf, bytesOf}
-use Rattle.ms_layout.specs.Weave.{strand, woven}
+use Rattle.ima_nibble.specs.Step.{State, state, sixteen}
+use Rattle.ima_nibble.specs.Table.{imaSteps}
+use Rattle.ima_nibble.specs.Series.{Done, done, decoded, encoded, nibblesOf, packed}
+use Rattle.ms_block.specs.Header.{header, headOf}
+use Rattle.ms_block.specs.Sizes.{most, samplesOf, bytesOf}
+use Rattle.ms_block.specs.Weave.{strand, woven}
 
 -- ---- One channel
 

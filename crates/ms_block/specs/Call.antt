@@ -5,8 +5,8 @@ use Prim.Native.Nat.{ℕ}
 use lib.Dec.{eqb}
 use lib.IntN.{ℤ}
 use lib.ListN.{length}
-use Rattle.adpcm_ima.specs.Step.{State}
-use Rattle.ms_layout.specs.Sizes.{refusalOf}
+use Rattle.ima_nibble.specs.Step.{State}
+use Rattle.ms_block.specs.Sizes.{refusalOf}
 use Rattle.ms_block.specs.Block.{decodedBlock, encodedBlock, encodedStates}
 
 -- What a call returns and leaves: the number, the states, and what its buffer holds at the end.

@@ -1,2 +1,5 @@
 pub mod Block
 pub mod Call
+pub mod Header
+pub mod Sizes
+pub mod Weave

@@ -9,11 +9,11 @@ use lib.ListN.{length, getD, set, length-set}
 use lib.Seq.{getD-set-same, getD-set-other, set-set}
 use borrow.Author.Tests.{eqb-true, eqb-false}
 use borrow.Table.Steps.{cases}
-use Rattle.adpcm_ima.specs.Step.{State, state}
-use Rattle.adpcm_ima.specs.Series.{decoded, nibblesOf}
-use Rattle.ms_layout.specs.Header.{headOf}
-use Rattle.ms_layout.proofs.Sizes.{Shape, four-bytes, samples-each, even-samples}
-use Rattle.ms_layout.proofs.Weave.{weaves, singly, in-list, in-strand, strand-at, strand-length}
+use Rattle.ima_nibble.specs.Step.{State, state}
+use Rattle.ima_nibble.specs.Series.{decoded, nibblesOf}
+use Rattle.ms_block.specs.Header.{headOf}
+use Rattle.ms_block.proofs.Sizes.{Shape, four-bytes, samples-each, even-samples}
+use Rattle.ms_block.proofs.Weave.{weaves, singly, in-list, in-strand, strand-at, strand-length}
 use Rattle.ms_block.specs.Block.{decodedChannel, bytesIn, decodedBlock}
 use Rattle.ms_decode.specs.Progress.{Headed}
 use Rattle.ms_block.proofs.OwnBytes.{moved, before, sample, low, high, low-is, high-is, next-is}

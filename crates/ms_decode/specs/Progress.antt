@@ -4,8 +4,8 @@ use mathlib.Core.List.{List}
 use Prim.Native.Nat.{ℕ, _<_}
 use lib.IntN.{ℤ, pos}
 use lib.ListN.{getD}
-use Rattle.adpcm_ima.specs.Step.{State}
-use Rattle.ms_layout.specs.Header.{headOf}
+use Rattle.ima_nibble.specs.Step.{State}
+use Rattle.ms_block.specs.Header.{headOf}
 use Rattle.ms_block.specs.Block.{bytesIn, stateIn}
 
 -- the headers of the first k channels are read: each has its state and its first sample

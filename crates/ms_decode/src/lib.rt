@@ -1,6 +1,6 @@
 // A block to samples. Each channel starts from its header, so no state goes in or comes back.
 use adpcm_ima::IMA_STEP_TABLE;
-use adpcm_ima::Wide;
+use ima_step::Wide;
 use ms_layout::MOST;
 use ms_layout::head;
 use ms_layout::refusal;
@@ -10,8 +10,8 @@ use num::low_nibble;
 ghost use mathlib.Core.Path.{_≡_};
 ghost use mathlib.Core.List.{[], map};
 ghost use lib.ListN.{length};
-ghost use Rattle.adpcm_ima.specs.View.{wideOf};
-ghost use Rattle.ms_layout.specs.Sizes.{Taken};
+ghost use Rattle.ima_step.specs.View.{wideOf};
+ghost use Rattle.ms_block.specs.Sizes.{Taken};
 ghost use Rattle.ms_block.specs.Block.{decodedBlock};
 ghost use Rattle.ms_block.specs.Call.{answered, decodeBlock};
 ghost use Rattle.ms_decode.specs.Progress.{Headed};
@@ -34,10 +34,10 @@ fn heads(c: usize, buf: &[u8], out_samples: &mut [i16]) -> [Wide; MOST]
     requires { ⌜ Taken c (length (now buf)) (length (now «out_samples»)) ⌝ }
     ensures { λ r. ⌜ Headed c (now (buf .entry)) c (now («out_samples» .exit)) (map wideOf r) ⌝ }
 {
-    let mut wides = [Wide::of(head(0, 0, 0)); MOST];
+    let mut wides = [head(0, 0, 0).widened(); MOST];
     let mut ch = 0;
     while ch < c {
-        let wide = Wide::of(head(buf[4 * ch], buf[4 * ch + 1], buf[4 * ch + 2]));
+        let wide = head(buf[4 * ch], buf[4 * ch + 1], buf[4 * ch + 2]).widened();
         let first = wide.predictor;
         out_samples[ch] = first;
         wides[ch] = wide;

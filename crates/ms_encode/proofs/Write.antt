@@ -11,12 +11,12 @@ use borrow.Author.Tests.{eqb-true, eqb-false, ltb-true, ltb-false}
 use borrow.Table.Steps.{cases}
 use Rattle.num.specs.Halves.{bitsOf}
 use Rattle.num.proofs.Lists.{as-far, as-long}
-use Rattle.adpcm_ima.specs.Step.{State, state, sixteen}
-use Rattle.adpcm_ima.specs.Table.{imaSteps}
-use Rattle.adpcm_ima.specs.Series.{encoded}
-use Rattle.ms_layout.specs.Sizes.{most, bytesOf}
-use Rattle.ms_layout.proofs.Sizes.{Shape, four-bytes, samples-each}
-use Rattle.ms_layout.proofs.Weave.{singly, in-list, in-strand, strand-at, strand-length, woven-at}
+use Rattle.ima_nibble.specs.Step.{State, state, sixteen}
+use Rattle.ima_nibble.specs.Table.{imaSteps}
+use Rattle.ima_nibble.specs.Series.{encoded}
+use Rattle.ms_block.specs.Sizes.{most, bytesOf}
+use Rattle.ms_block.proofs.Sizes.{Shape, four-bytes, samples-each}
+use Rattle.ms_block.proofs.Weave.{singly, in-list, in-strand, strand-at, strand-length, woven-at}
 use Rattle.ms_block.specs.Block.{encodedChannel, samplesIn, stateIn, begunIn, begun, encodedIn, blockFrom, statesFrom, encodedBlock}
 use Rattle.ms_block.proofs.Midst.{byte, in-group, States, states-first, state-now, states-turn}
 use Rattle.ms_block.proofs.OwnSamples.{gives, moved, before, byte-is, next-is}

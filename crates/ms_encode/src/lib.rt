@@ -1,7 +1,6 @@
 // Samples to a block. The states go in by value, and come back in one array.
 use adpcm_ima::AdpcmImaState;
 use adpcm_ima::IMA_STEP_TABLE;
-use adpcm_ima::Wide;
 use ms_layout::MOST;
 use ms_layout::refusal;
 use num::bits_of;
@@ -14,7 +13,7 @@ ghost use lib.ListN.{length, take};
 ghost use Rattle.adpcm_ima.specs.View.{stateOf};
 ghost use Rattle.ms_block.specs.Block.{begun, blockFrom, statesFrom, encodedBlock};
 ghost use Rattle.ms_block.specs.Call.{answered, encodeBlock};
-ghost use Rattle.ms_layout.specs.Sizes.{Taken};
+ghost use Rattle.ms_block.specs.Sizes.{Taken};
 
 // `refusal` is 0 for done. A refusal hands the states back as they came, and leaves the buffer alone.
 pub struct Answer {
@@ -96,7 +95,7 @@ fn groups(
                 break 'block;
             }
             let end = lesser(at + 4, n);
-            let mut wide = Wide::of(states[ch]);
+            let mut wide = states[ch].widened();
             // a group starts at frame 8 g + 1, and the samples of a channel stand c apart
             let mut k = c * (8 * g + 1) + ch;
             while at < end {
@@ -107,7 +106,7 @@ fn groups(
                 k += 2 * c;
                 at += 1;
             }
-            states[ch] = wide.narrowed();
+            states[ch] = AdpcmImaState::narrowed(wide);
             ch += 1;
         }
         g += 1;

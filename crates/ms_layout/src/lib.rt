@@ -8,8 +8,8 @@ ghost use mathlib.Core.Bool.{_&&_, _||_};
 ghost use Prim.Native.Nat.{_*_, _%_, _≤_, min};
 ghost use lib.Dec.{eqb};
 ghost use Rattle.adpcm_ima.specs.View.{stateOf};
-ghost use Rattle.ms_layout.specs.Header.{headed};
-ghost use Rattle.ms_layout.specs.Sizes.{most, sized, samplesOf, refusalOf};
+ghost use Rattle.ms_block.specs.Header.{headed};
+ghost use Rattle.ms_block.specs.Sizes.{most, sized, samplesOf, refusalOf};
 
 // The most channels that a block has.
 pub const MOST: usize = 2;

@@ -2,8 +2,8 @@
 use crate::say::number;
 use crate::say::text;
 use adpcm_ima::AdpcmImaState;
-use ms::decode_adpcm_ima_ms;
-use ms::encode_adpcm_ima_ms;
+use ms_decode::decode_adpcm_ima_ms;
+use ms_encode::encode_adpcm_ima_ms;
 use ms_layout::MOST;
 use num::monus;
 ghost use Prim.Native.Nat.{_≤_};

@@ -2,7 +2,7 @@
 use crate::say::byte;
 use crate::say::signed;
 use crate::say::text;
-use ms::decode_adpcm_ima_ms;
+use ms_decode::decode_adpcm_ima_ms;
 use repacking::repack_adpcm_ima_ms;
 
 pub(crate) fn show() {

@@ -4,7 +4,7 @@ use crate::say::number;
 use crate::say::signed;
 use crate::say::text;
 use crate::state;
-use ima4::decode_adpcm_ima_ima4;
+use ima4_decode::decode_adpcm_ima_ima4;
 
 pub(crate) fn show() {
     zero(100, 0);

@@ -2,7 +2,6 @@
 // with a state that reads and one that writes, so that no samples are kept.
 use adpcm_ima::AdpcmImaState;
 use adpcm_ima::IMA_STEP_TABLE;
-use adpcm_ima::Wide;
 use ms_layout::head;
 use ms_layout::refusal;
 use ms_layout::samples;
@@ -14,10 +13,10 @@ ghost use mathlib.Core.Path.{_≡_};
 ghost use Prim.Native.Nat.{_+_, _<_};
 ghost use lib.ListN.{length};
 ghost use Rattle.adpcm_ima.specs.View.{stateOf};
-ghost use Rattle.ms_layout.specs.Header.{headOf};
+ghost use Rattle.ms_block.specs.Header.{headOf};
 ghost use Rattle.ms_block.specs.Block.{bytesIn};
-ghost use Rattle.repacking.specs.Progress.{Alike, Upto};
-ghost use Rattle.repacking.specs.Repack.{repacked, differ, answered, repackRefusal, repackBlock};
+ghost use Rattle.ms_repacked.specs.Progress.{Alike, Upto};
+ghost use Rattle.ms_repacked.specs.Repack.{repacked, differ, answered, repackRefusal, repackBlock};
 
 // `refusal` is 0 for done. A refusal leaves the buffer alone, and no byte changed.
 pub struct Answer {
@@ -85,7 +84,7 @@ fn channel(c: usize, ch: usize, block: &[u8], out: &mut [u8])
 {
     let steps = IMA_STEP_TABLE;
     let share = block.len() / c;
-    let mut reads = Wide::of(header(c, ch, block, out));
+    let mut reads = header(c, ch, block, out).widened();
     let mut writes = reads;
     let mut d = 4;
     while d < share {

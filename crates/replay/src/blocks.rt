@@ -4,8 +4,8 @@
 use crate::answer::Answer;
 use crate::answer::no_call;
 use adpcm_ima::AdpcmImaState;
-use ima4::decode_adpcm_ima_ima4;
-use ima4::encode_adpcm_ima_ima4;
+use ima4_decode::decode_adpcm_ima_ima4;
+use ima4_encode::encode_adpcm_ima_ima4;
 use num::from_halves;
 ghost use mathlib.Core.Path.{_≡_};
 ghost use Prim.Native.Nat.{_+_, _*_, _<_};

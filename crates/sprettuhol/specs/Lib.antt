@@ -1,3 +1,3 @@
 pub mod Loss
 pub mod Repack
-pub mod States
+pub mod Version

@@ -3,7 +3,7 @@ use mathlib.Core.Bool.{Bool, cond}
 use mathlib.Core.List.{List}
 use Prim.Native.Nat.{ℕ}
 use lib.Dec.{eqb}
-use Rattle.repacking.specs.Repack.{repackBlock}
+use Rattle.ms_repacked.specs.Repack.{repackBlock}
 
 pub record Numbered : Type 0 where
   pub refusal : ℕ

@@ -1,29 +1,38 @@
 // The static library: the C interface, each function with its whole contract.
-mod states;
-
 use adpcm_ima::AdpcmImaState;
-use ima4::decode_adpcm_ima_ima4_run;
-use ima4::encode_adpcm_ima_ima4_run;
+use channels::predictors_of;
+use channels::states_of;
+use channels::step_indices_of;
+use ima4_decode::decode_adpcm_ima_ima4_run;
+use ima4_encode::encode_adpcm_ima_ima4_run;
 use loss::First;
 use loss::loss_report;
-use ms::decode_adpcm_ima_ms;
-use ms::encode_adpcm_ima_ms;
+use ms_decode::decode_adpcm_ima_ms;
+use ms_encode::encode_adpcm_ima_ms;
 use ms_layout::MOST;
 use repacking::repack_adpcm_ima_ms;
-use states::predictors_of;
-use states::states_of;
-use states::step_indices_of;
 ghost use mathlib.Core.Path.{_≡_};
 ghost use mathlib.Core.List.{[]};
-ghost use Rattle.adpcm_ima.specs.Step.{state, sixteen, stepped, emitted};
-ghost use Rattle.adpcm_ima.specs.Table.{imaSteps};
-ghost use Rattle.ima4.specs.Call.{answered, decodeRun, encodeRun};
+ghost use Rattle.ima_nibble.specs.Step.{state, sixteen, stepped, emitted};
+ghost use Rattle.ima_nibble.specs.Table.{imaSteps};
+ghost use Rattle.ima4_block.specs.Call.{answered, decodeRun, encodeRun};
 ghost use Rattle.loss.specs.Loss.{placeOf};
 ghost use Rattle.ms_block.specs.Call as Ms;
 ghost use Rattle.sprettuhol.specs.Loss.{orMax, stored, lossCall};
 ghost use Rattle.sprettuhol.specs.Repack.{numbered, repackNumbers};
-ghost use Rattle.sprettuhol.specs.States.{statesOf};
+ghost use Rattle.sprettuhol.specs.Version.{version};
+ghost use Rattle.channels.specs.States.{statesOf};
 ghost use Rattle.g711.specs.Law.{mu-law, A-law, sampleOf, codeOf};
+
+// The header has it too, and so has the Cargo.toml of the Rust crate.
+const VERSION: u32 = 100;
+
+#[no_mangle]
+pub extern "C" fn spr_version() -> u32
+    ensures { λ r. ⌜ r ≡ version ⌝ }
+{
+    VERSION
+}
 
 #[no_mangle]
 pub extern "C" fn spr_decode_ulaw(encoded: u8) -> i16

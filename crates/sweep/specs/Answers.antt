@@ -6,8 +6,8 @@ use lib.Dec.{eqb}
 use lib.IntN.{ℤ, pos, natAbs, subℕ, _+ℤ_}
 use lib.ListN.{length}
 use Rattle.num.specs.Lists.{from}
-use Rattle.adpcm_ima.specs.Step.{State, sixteen, stepped, emitted}
-use Rattle.adpcm_ima.specs.Table.{imaSteps}
+use Rattle.ima_nibble.specs.Step.{State, sixteen, stepped, emitted}
+use Rattle.ima_nibble.specs.Table.{imaSteps}
 
 -- The nibble in the lowest byte, the next index in the byte above it, the next predictor and 32768 in the two above that.
 abbrev pub packed : ℕ → State → ℕ

@@ -1,12 +1,12 @@
 // The encoder asked for every sample from one state, in one call: what a comparison on its whole domain calls.
 use adpcm_ima::AdpcmImaState;
 use adpcm_ima::IMA_STEP_TABLE;
-use adpcm_ima::Wide;
+use ima_step::Wide;
 ghost use mathlib.Core.Path.{_≡_};
 ghost use Prim.Native.Nat.{_<_};
 ghost use lib.IntN.{pos, natAbs, subℕ, _+ℤ_};
-ghost use Rattle.adpcm_ima.specs.Step.{state};
-ghost use Rattle.adpcm_ima.specs.View.{wideOf};
+ghost use Rattle.ima_nibble.specs.Step.{state};
+ghost use Rattle.ima_step.specs.View.{wideOf};
 ghost use Rattle.sweep.specs.Answers.{answerOf, refusalOf, after};
 
 // answers[k] is the answer to the sample k - 32768. A buffer that is not of 65,536 numbers is refused by 2, and left alone.
@@ -18,10 +18,11 @@ pub extern "C" fn sweep_encode(predictor: i16, step_index: u8, answers: &mut [u3
         return 2;
     }
     let steps = IMA_STEP_TABLE;
-    let wide = Wide::of(AdpcmImaState {
+    let state = AdpcmImaState {
         predictor,
         step_index,
-    });
+    };
+    let wide = state.widened();
     let mut k = 0;
     while k < answers.len() {
         answers[k] = answered(&steps, wide, sample(k));
@@ -40,9 +41,9 @@ fn sample(k: usize) -> i16
 fn answered(steps: &[u16; 89], wide: Wide, x: i16) -> u32
     ensures { λ r. ⌜ r ≡ answerOf (now (steps .entry)) (wideOf wide) x ⌝ }
 {
-    let nibble = wide.nibble(steps, x);
-    let next = wide.moved(steps, nibble).narrowed();
-    nibble + 256 * (next.step_index as u32) + 65536 * biased(next.predictor)
+    let coded = wide.coded(steps, x);
+    let next = AdpcmImaState::narrowed(coded.next);
+    coded.nibble + 256 * (next.step_index as u32) + 65536 * biased(next.predictor)
 }
 
 fn biased(x: i16) -> u32

@@ -5,6 +5,7 @@
 //! exhaustive run; here it is asked about the samples at which an answer can go wrong by one, from
 //! every state, and about all samples from some states.
 
+use crate::domain::predictors;
 use crate::lent;
 use crate::nibble::{oracle, ours, After, Before};
 use crate::parallel::each;
@@ -29,7 +30,7 @@ fn decode(
 ) -> Report {
     let report = Report::start(progress, name);
     each(0..=u8::MAX, |index| {
-        for predictor in i16::MIN..=i16::MAX {
+        for predictor in predictors() {
             let inputs = (0..=u8::MAX).map(|byte| (byte, predictor, index));
             report.compare(inputs, &ours, oracle::decode);
         }
@@ -45,7 +46,7 @@ fn encode(
     let report = Report::start(progress, name);
     each(0..=u8::MAX, |index| {
         let places = Places::of(index);
-        for predictor in i16::MIN..=i16::MAX {
+        for predictor in predictors() {
             let samples = places.samples(predictor);
             let inputs = samples.map(|sample| (sample, predictor, index));
             report.compare(inputs, &ours, oracle::encode);

@@ -3,6 +3,7 @@
 //! writes its state into the header, so it starts from every predictor there is.
 
 use crate::blocks::{oracle, ours, State, BYTES, SAMPLES};
+use crate::domain;
 use crate::parallel::each;
 use crate::report::Report;
 use crate::runs::random;
@@ -37,7 +38,7 @@ pub fn decode(progress: bool) -> Report {
 pub fn encode(progress: bool) -> Report {
     let report = Report::start(progress, "encode_ima4");
     let samples = samples();
-    each(i16::MIN..=i16::MAX, |predictor| {
+    each(domain::predictors(), |predictor| {
         let input = |index: u8| {
             let turn = usize::from(predictor as u16) * 127 + usize::from(index);
             let mut block = [0; SAMPLES];

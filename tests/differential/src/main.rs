@@ -4,11 +4,14 @@
 //! With the word `exhaustive` it compares the whole domain of each call, for as long as that takes,
 //! and says where it is. It can be stopped at any moment, and goes on from there when it is run again.
 //! A number after the word has it do no more than so many chunks of the long part, to try it.
+//!
+//! With the word `sampled` it compares a part of the predictors where it would compare all of them.
 
 mod adpcm_ima;
 mod blocks;
 mod calls;
 mod cuts;
+mod domain;
 mod exhaustive;
 #[path = "../../../bindings/rust/src/ffi.rs"]
 mod ffi;
@@ -39,12 +42,16 @@ fn main() -> ExitCode {
     let words: Vec<String> = std::env::args().skip(1).collect();
     let chunks = match words.iter().map(String::as_str).collect::<Vec<_>>()[..] {
         [] => Ok(None),
+        ["sampled"] => {
+            domain::sample();
+            Ok(None)
+        }
         ["exhaustive"] => Ok(Some(usize::MAX)),
         ["exhaustive", chunks] => chunks.parse().map(Some).map_err(|_| ()),
         _ => Err(()),
     };
     let Ok(chunks) = chunks else {
-        eprintln!("usage: differential [exhaustive [CHUNKS]] (CHUNKS: do no more of them)");
+        eprintln!("usage: differential [sampled | exhaustive [CHUNKS]] (CHUNKS: do no more of them)");
         return ExitCode::from(2);
     };
 

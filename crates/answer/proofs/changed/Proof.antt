@@ -5,10 +5,10 @@ use native.Mathlib.Omega.{arith}
 use lib.ListN.{length, take}
 use lib.Seq.{length-take-le}
 use borrow.Author.Needs.{needs}
-use Rattle.ms_layout.specs.Sizes.{samplesOf}
+use Rattle.ms_block.specs.Sizes.{samplesOf}
 use Rattle.loss.specs.Loss.{Reported, lossReport}
 use Rattle.text.specs.Text.{Stands}
-use Rattle.answer.specs.Answer.{changed}
+use Rattle.lines.specs.Lines.{changed}
 use Rattle.answer.proofs.Small.{samples-are, samples-few}
 use Rattle.answer.proofs.changed.Statement.{statement}
 use Rattle.answer.proofs.changed.Tie as tie

@@ -7,7 +7,8 @@ use lib.ListN.{length}
 use borrow.Author.Needs.{needs}
 use Rattle.text.specs.Text.{Stands}
 use Rattle.text.proofs.Behind.{stands-none, stands-more}
-use Rattle.answer.specs.Answer.{same, said, lossOf}
+use Rattle.lines.specs.Lines.{same}
+use Rattle.answer.specs.Answer.{said, lossOf}
 use Rattle.answer.proofs.said.Statement.{statement}
 use Rattle.answer.proofs.said.Tie as tie
 

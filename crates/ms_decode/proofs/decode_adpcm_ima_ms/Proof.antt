@@ -4,7 +4,7 @@ use mathlib.Core.List.{[]}
 use borrow.Author.Needs.{needs}
 use borrow.Author.Tests.{ne-eqb}
 use lib.ListN.{length}
-use Rattle.ms_layout.specs.Sizes.{refusalOf}
+use Rattle.ms_block.specs.Sizes.{refusalOf}
 use Rattle.ms_block.specs.Call.{answered, decodeBlock}
 use Rattle.ms_decode.proofs.decode_adpcm_ima_ms.Statement.{statement}
 use Rattle.ms_decode.proofs.decode_adpcm_ima_ms.Tie as tie

@@ -11,11 +11,11 @@ use mir.Val.{SFits, toZ, ofZ}
 use mir.ValLaws.{toZ-ofZ}
 use borrow.Author.Needs.{needs}
 use Rattle.num.proofs.Lists.{map-set, map-kept}
-use Rattle.adpcm_ima.specs.Step.{sixteen, stepped}
-use Rattle.adpcm_ima.specs.Table.{imaSteps}
-use Rattle.adpcm_ima.specs.View.{wideOf}
-use Rattle.ms_layout.specs.Sizes.{most}
-use Rattle.ms_layout.proofs.Sizes.{Shape, shape}
+use Rattle.ima_nibble.specs.Step.{sixteen, stepped}
+use Rattle.ima_nibble.specs.Table.{imaSteps}
+use Rattle.ima_step.specs.View.{wideOf}
+use Rattle.ms_block.specs.Sizes.{most}
+use Rattle.ms_block.proofs.Sizes.{Shape, shape}
 use Rattle.ms_decode.proofs.Read.{Upto, first, byte-turn, ends}
 use Rattle.ms_block.proofs.Walk.{Groups, Channels, Bytes, groups-first, channels-first, bytes-first, bytes-next, channels-next, groups-next, frames-first, frames-next, own, frame-is, room}
 use Rattle.ms_decode.proofs.groups.Statement.{statement}

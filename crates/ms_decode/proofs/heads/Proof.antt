@@ -9,9 +9,9 @@ use mir.Val.{SFits, toZ, ofZ}
 use mir.ValLaws.{toZ-ofZ}
 use borrow.Author.Needs.{needs}
 use Rattle.num.proofs.Lists.{map-set}
-use Rattle.adpcm_ima.specs.View.{wideOf}
-use Rattle.ms_layout.specs.Sizes.{most}
-use Rattle.ms_layout.proofs.Sizes.{Shape, shape, samples-all}
+use Rattle.ima_step.specs.View.{wideOf}
+use Rattle.ms_block.specs.Sizes.{most}
+use Rattle.ms_block.proofs.Sizes.{Shape, shape, samples-all}
 use Rattle.ms_decode.specs.Progress.{Headed}
 use Rattle.ms_block.proofs.OwnBytes.{head-is}
 use Rattle.ms_decode.proofs.Read.{heads-turn}

@@ -5,8 +5,8 @@ use Prim.Native.Nat.{ℕ, _*_}
 use lib.ListN.{length, take}
 use borrow.Author.Needs.{needs}
 use borrow.Author.Tests.{ne-eqb}
-use Rattle.adpcm_ima.specs.Step.{State}
-use Rattle.ms_layout.specs.Sizes.{refusalOf}
+use Rattle.ima_nibble.specs.Step.{State}
+use Rattle.ms_block.specs.Sizes.{refusalOf}
 use Rattle.ms_block.specs.Block.{blockFrom, statesFrom}
 use Rattle.ms_block.specs.Call.{answered, encodeBlock}
 use Rattle.ms_encode.proofs.encode_adpcm_ima_ms.Statement.{statement}

@@ -11,13 +11,14 @@ use mir.Val.{SFits, toZ, ofZ}
 use mir.ValLaws.{toZ-ofZ}
 use borrow.Author.Needs.{needs}
 use Rattle.num.proofs.Lists.{map-set, map-kept}
-use Rattle.adpcm_ima.specs.Step.{State, sixteen, stepped}
-use Rattle.adpcm_ima.specs.Table.{imaSteps}
+use Rattle.ima_nibble.specs.Step.{State, sixteen, stepped}
+use Rattle.ima_nibble.specs.Table.{imaSteps}
 use Rattle.adpcm_ima.specs.declared.AdpcmImaState.{AdpcmImaState}
-use Rattle.adpcm_ima.specs.View.{stateOf, wideOf}
-use Rattle.adpcm_ima.proofs.Bounds.{moved-lt, narrow-below}
-use Rattle.ms_layout.specs.Sizes.{most}
-use Rattle.ms_layout.proofs.Sizes.{Shape, shape}
+use Rattle.adpcm_ima.specs.View.{stateOf}
+use Rattle.ima_step.specs.View.{wideOf}
+use Rattle.ima_nibble.proofs.Bounds.{moved-lt, narrow-below}
+use Rattle.ms_block.specs.Sizes.{most}
+use Rattle.ms_block.proofs.Sizes.{Shape, shape}
 use Rattle.ms_block.proofs.Walk.{Groups, Channels, Bytes, groups-first, channels-first, bytes-first, bytes-next, channels-next, groups-next, frames-first, frames-next, own, frame-is, room}
 use Rattle.ms_encode.proofs.Write.{Upto, first, byte-turn, ends}
 use Rattle.ms_encode.proofs.groups.Statement.{statement}
@@ -90,7 +91,7 @@ loop2-holds c =
       inv .3,
       inv .4,
       frames-first (loop .before .before .before .args .c) (loop .before .block .g) (loop .loop .ch) (loop .loop .at),
-      c .of .ensures .1,
+      c .widened .ensures .1,
     )
 
 -- where the two samples of a byte stand
@@ -175,7 +176,7 @@ loop-again c =
     let ch = loop .loop .ch in
     let st = c .narrowed .ensures ∙ narrow-below (wideOf (at .loop2 .wide)) (inv .6) in
     let d : AdpcmImaState = record { predictor = pos 0; «step_index» = 0 } in
-    let kept = map-kept stateOf states ch d ∙ ap (set (map stateOf states) ch) (sym (at .before .of .ensures .0)) in
+    let kept = map-kept stateOf states ch d ∙ ap (set (map stateOf states) ch) (sym (at .before .widened .ensures .0)) in
     let back = ap (set (map stateOf states) ch) (sym st) ∙ sym (map-set stateOf states ch (c .narrowed .result)) in (
       (λ starts u. subst (Upto (a .c) (a .samples .now) starts (at .loop2 .at) (at .loop2 .out-buf)) back
           (inv .0 starts (subst (Upto (a .c) (a .samples .now) starts (loop .loop .at) (loop .loop .out-buf)) kept (loop .loop .inv .0 starts u)))),

@@ -11,11 +11,11 @@ use mir.ValLaws.{toZ-ofZ}
 use borrow.Author.Needs.{needs}
 use Rattle.num.specs.Halves.{bitsOf}
 use Rattle.num.proofs.Lists.{map-set}
-use Rattle.adpcm_ima.specs.Step.{State, state}
+use Rattle.ima_nibble.specs.Step.{State, state}
 use Rattle.adpcm_ima.specs.declared.AdpcmImaState.{AdpcmImaState}
 use Rattle.adpcm_ima.specs.View.{stateOf}
-use Rattle.ms_layout.specs.Sizes.{most}
-use Rattle.ms_layout.proofs.Sizes.{Shape, shape}
+use Rattle.ms_block.specs.Sizes.{most}
+use Rattle.ms_block.proofs.Sizes.{Shape, shape}
 use Rattle.ms_encode.proofs.Write.{Begun, begun-first, begun-turn, begun-all, four-length}
 use Rattle.ms_encode.proofs.heads.Statement.{statement}
 use Rattle.ms_encode.proofs.heads.Tie as tie

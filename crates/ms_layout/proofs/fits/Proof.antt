@@ -6,7 +6,7 @@ use lib.Dec.{leb, eqb}
 use native.Mathlib.Omega.{arith}
 use borrow.Author.Needs.{needs}
 use borrow.Author.Tests.{le-leb, lt-leb}
-use Rattle.ms_layout.specs.Sizes.{samplesOf}
+use Rattle.ms_block.specs.Sizes.{samplesOf}
 use Rattle.ms_layout.proofs.fits.Statement.{statement}
 use Rattle.ms_layout.proofs.fits.Tie as tie
 

@@ -4,7 +4,7 @@ use mir.Syntax.{w16}
 use mir.Val.{SFits}
 use mir.ValLaws.{toZ-ofZ}
 use borrow.Author.Needs.{needs}
-use Rattle.adpcm_ima.specs.Step.{state}
+use Rattle.ima_nibble.specs.Step.{state}
 use Rattle.ms_layout.proofs.head.Statement.{statement}
 use Rattle.ms_layout.proofs.head.Tie as tie
 

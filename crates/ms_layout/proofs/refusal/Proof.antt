@@ -4,7 +4,7 @@ use mathlib.Core.Bool.{true}
 use lib.Dec.{leb}
 use borrow.Author.Needs.{needs}
 use borrow.Author.Tests.{le-leb, lt-leb}
-use Rattle.ms_layout.specs.Sizes.{most, channelled, refusalOf}
+use Rattle.ms_block.specs.Sizes.{most, channelled, refusalOf}
 use Rattle.ms_layout.proofs.refusal.Statement.{statement}
 use Rattle.ms_layout.proofs.refusal.Tie as tie
 

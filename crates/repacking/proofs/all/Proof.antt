@@ -4,10 +4,10 @@ use Prim.Native.Nat.{ℕ, _-_, _≤_}
 use native.Mathlib.Omega.{arith}
 use lib.ListN.{length}
 use borrow.Author.Needs.{needs}
-use Rattle.ms_layout.specs.Sizes.{samplesOf}
-use Rattle.ms_layout.proofs.Sizes.{shape}
-use Rattle.repacking.specs.Progress.{Upto}
-use Rattle.repacking.proofs.Midway.{ends}
+use Rattle.ms_block.specs.Sizes.{samplesOf}
+use Rattle.ms_block.proofs.Sizes.{shape}
+use Rattle.ms_repacked.specs.Progress.{Upto}
+use Rattle.ms_repacked.proofs.Midway.{ends}
 use Rattle.repacking.proofs.all.Statement.{statement}
 use Rattle.repacking.proofs.all.Tie as tie
 

@@ -8,13 +8,13 @@ use mir.Syntax.{w16}
 use mir.Val.{SFits}
 use mir.ValLaws.{toZ-ofZ}
 use borrow.Author.Needs.{needs}
-use Rattle.adpcm_ima.specs.Step.{sixteen, stepped, emitted}
-use Rattle.adpcm_ima.specs.Table.{imaSteps}
-use Rattle.adpcm_ima.specs.View.{wideOf}
-use Rattle.ms_layout.specs.Sizes.{samplesOf}
-use Rattle.ms_layout.specs.Weave.{place}
-use Rattle.ms_layout.proofs.Sizes.{Shape, shape, four-bytes}
-use Rattle.repacking.proofs.Midway.{Midway, inside-block, start, turn, last}
+use Rattle.ima_nibble.specs.Step.{sixteen, stepped, emitted}
+use Rattle.ima_nibble.specs.Table.{imaSteps}
+use Rattle.ima_step.specs.View.{wideOf}
+use Rattle.ms_block.specs.Sizes.{samplesOf}
+use Rattle.ms_block.specs.Weave.{place}
+use Rattle.ms_block.proofs.Sizes.{Shape, shape, four-bytes}
+use Rattle.ms_repacked.proofs.Midway.{Midway, inside-block, start, turn, last}
 use Rattle.repacking.proofs.channel.Statement.{statement}
 use Rattle.repacking.proofs.channel.Tie as tie
 
@@ -39,7 +39,7 @@ loop-holds : tie.Need-loop-holds Inv-loop μ-loop
 loop-holds c =
     let s = c .before .before .before .before .before .before .before in
     let made = c .before .before .before .header .ensures in (
-      start (s .args .block .now) (is s) (s .args .ch) (s .pre .1) (c .before .before .before .header .last .1 .1 .1 .0) (wideOf (c .of .result)) (c .of .ensures .0 ∙ made .0) (made .1),
+      start (s .args .block .now) (is s) (s .args .ch) (s .pre .1) (c .before .before .before .header .last .1 .1 .1 .0) (wideOf (c .widened .result)) (c .widened .ensures .0 ∙ made .0) (made .1),
       c .before .before .out .given ∙ s .pre .0 .1,
       omega arith,
       four-bytes (is s),

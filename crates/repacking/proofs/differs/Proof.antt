@@ -4,8 +4,8 @@ use Prim.Native.Nat.{ℕ, suc, _+_, _-_, _≤_}
 use native.Mathlib.Omega.{arith}
 use lib.ListN.{length, drop}
 use borrow.Author.Needs.{needs}
-use Rattle.repacking.specs.Repack.{differ}
-use Rattle.repacking.proofs.Unlike.{unlike, like, behind}
+use Rattle.ms_repacked.specs.Repack.{differ}
+use Rattle.ms_repacked.proofs.Unlike.{unlike, like, behind}
 use Rattle.repacking.proofs.differs.Statement.{statement}
 use Rattle.repacking.proofs.differs.Tie as tie
 

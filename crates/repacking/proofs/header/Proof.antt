@@ -10,10 +10,10 @@ use borrow.Author.Needs.{needs}
 use Rattle.num.specs.Halves.{bitsOf}
 use Rattle.adpcm_ima.specs.declared.AdpcmImaState.{AdpcmImaState}
 use Rattle.adpcm_ima.specs.View.{stateOf}
-use Rattle.ms_layout.specs.Sizes.{samplesOf}
-use Rattle.ms_layout.proofs.Sizes.{Shape, shape}
+use Rattle.ms_block.specs.Sizes.{samplesOf}
+use Rattle.ms_block.proofs.Sizes.{Shape, shape}
 use Rattle.ms_block.proofs.OwnBytes.{head-is}
-use Rattle.repacking.proofs.Midway.{fourth, header-put}
+use Rattle.ms_repacked.proofs.Midway.{fourth, header-put}
 use Rattle.repacking.proofs.header.Statement.{statement}
 use Rattle.repacking.proofs.header.Tie as tie
 

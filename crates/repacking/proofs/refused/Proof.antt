@@ -4,9 +4,9 @@ use mathlib.Core.Bool.{cond}
 use lib.Dec.{eqb}
 use borrow.Author.Needs.{needs}
 use borrow.Author.Tests.{eq-eqb, ne-eqb}
-use Rattle.ms_layout.specs.Sizes.{refusalOf}
-use Rattle.repacking.specs.Repack.{repackRefusal}
-use Rattle.repacking.proofs.Lengths.{refused, fits}
+use Rattle.ms_block.specs.Sizes.{refusalOf}
+use Rattle.ms_repacked.specs.Repack.{repackRefusal}
+use Rattle.ms_repacked.proofs.Lengths.{refused, fits}
 use Rattle.repacking.proofs.refused.Statement.{statement}
 use Rattle.repacking.proofs.refused.Tie as tie
 

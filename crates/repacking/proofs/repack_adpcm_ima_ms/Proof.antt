@@ -6,9 +6,9 @@ use Prim.Native.Nat.{ℕ}
 use lib.ListN.{length}
 use borrow.Author.Needs.{needs}
 use borrow.Author.Tests.{ne-eqb}
-use Rattle.repacking.specs.Progress.{Alike}
-use Rattle.repacking.specs.Repack.{differ, answered, repackRefusal, repackBlock}
-use Rattle.repacking.proofs.Theorems.{allowed}
+use Rattle.ms_repacked.specs.Progress.{Alike}
+use Rattle.ms_repacked.specs.Repack.{differ, answered, repackRefusal, repackBlock}
+use Rattle.ms_repacked.proofs.Theorems.{allowed}
 use Rattle.repacking.proofs.repack_adpcm_ima_ms.Statement.{statement}
 use Rattle.repacking.proofs.repack_adpcm_ima_ms.Tie as tie
 

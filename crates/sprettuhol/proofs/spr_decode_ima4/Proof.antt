@@ -4,8 +4,8 @@ use mir.Syntax.{w16}
 use mir.Val.{SFits}
 use mir.ValLaws.{toZ-ofZ}
 use borrow.Author.Needs.{needs}
-use Rattle.adpcm_ima.specs.Step.{state}
-use Rattle.ima4.specs.Call.{answered, decodeRun}
+use Rattle.ima_nibble.specs.Step.{state}
+use Rattle.ima4_block.specs.Call.{answered, decodeRun}
 use Rattle.sprettuhol.proofs.spr_decode_ima4.Statement.{statement}
 use Rattle.sprettuhol.proofs.spr_decode_ima4.Tie as tie
 

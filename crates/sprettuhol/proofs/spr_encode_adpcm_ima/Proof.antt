@@ -5,8 +5,8 @@ use mir.Syntax.{w16}
 use mir.Val.{SFits}
 use mir.ValLaws.{toZ-ofZ}
 use borrow.Author.Needs.{needs}
-use Rattle.adpcm_ima.specs.Step.{State, state, sixteen, stepped, emitted}
-use Rattle.adpcm_ima.specs.Table.{imaSteps}
+use Rattle.ima_nibble.specs.Step.{State, state, sixteen, stepped, emitted}
+use Rattle.ima_nibble.specs.Table.{imaSteps}
 use Rattle.sprettuhol.proofs.spr_encode_adpcm_ima.Statement.{statement}
 use Rattle.sprettuhol.proofs.spr_encode_adpcm_ima.Tie as tie
 

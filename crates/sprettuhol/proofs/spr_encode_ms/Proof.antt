@@ -3,12 +3,12 @@ use mathlib.Core.Path.{ap, ap₂, _∙_}
 use mathlib.Core.List.{List, map}
 use lib.ListN.{length}
 use borrow.Author.Needs.{needs}
-use Rattle.adpcm_ima.specs.Step.{State}
+use Rattle.ima_nibble.specs.Step.{State}
 use Rattle.adpcm_ima.specs.View.{stateOf}
 use Rattle.ms_block.specs.Call.{answered, encodeBlock}
 use Rattle.ms_block.proofs.Round.{states-length}
-use Rattle.sprettuhol.specs.States.{statesOf}
-use Rattle.sprettuhol.proofs.Numbers.{numbers-back, numbers-length}
+use Rattle.channels.specs.States.{statesOf}
+use Rattle.channels.proofs.Numbers.{numbers-back, numbers-length}
 use Rattle.sprettuhol.proofs.spr_encode_ms.Statement.{statement}
 use Rattle.sprettuhol.proofs.spr_encode_ms.Tie as tie
 

@@ -6,7 +6,7 @@ use lib.Dec.{eqb}
 use mir.Val.{boolByte}
 use borrow.Author.Needs.{needs}
 use borrow.Author.Tests.{eq-eqb, ne-eqb}
-use Rattle.repacking.specs.Repack.{Repacked}
+use Rattle.ms_repacked.specs.Repack.{Repacked}
 use Rattle.sprettuhol.specs.Repack.{Numbered, numbered, numberOf, repackNumbers}
 use Rattle.sprettuhol.proofs.spr_repack_ms.Statement.{statement}
 use Rattle.sprettuhol.proofs.spr_repack_ms.Tie as tie

@@ -7,9 +7,9 @@ use mir.Syntax.{w16}
 use mir.Val.{SFits}
 use mir.ValLaws.{toZ-ofZ}
 use borrow.Author.Needs.{needs}
-use Rattle.adpcm_ima.specs.Step.{sixteen, stepped, emitted}
-use Rattle.adpcm_ima.specs.View.{wideOf, narrow}
-use Rattle.adpcm_ima.proofs.Bounds.{narrow-is}
+use Rattle.ima_nibble.specs.Step.{sixteen, stepped, emitted, narrow}
+use Rattle.ima_step.specs.View.{wideOf}
+use Rattle.ima_nibble.proofs.Bounds.{narrow-is}
 use Rattle.sweep.specs.Answers.{packed, answerOf}
 use Rattle.sweep.proofs.answered.Statement.{statement}
 use Rattle.sweep.proofs.answered.Tie as tie

@@ -4,6 +4,7 @@
 
 use super::block::{oracle, ours, States};
 use crate::blocks::State;
+use crate::domain;
 use crate::headers::{bodies, one, samples, window};
 use crate::parallel::each;
 use crate::report::Report;
@@ -56,7 +57,7 @@ fn encode_all<const SAMPLES: usize, const BYTES: usize>(
 }
 
 pub fn mono(index: u8) -> impl Iterator<Item = [State; 1]> {
-    (i16::MIN..=i16::MAX).map(move |predictor| [(predictor, index)])
+    domain::predictors().map(move |predictor| [(predictor, index)])
 }
 
 /// An odd factor leads to every predictor, over all pairs of indices.

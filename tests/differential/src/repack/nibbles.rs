@@ -2,6 +2,7 @@
 //! the states about each limit at which the encoder would write another.
 
 use super::both::compare_all;
+use crate::domain;
 use crate::nibble::oracle;
 use crate::parallel::each;
 use crate::report::Report;
@@ -19,7 +20,7 @@ pub fn report(progress: bool) -> Report {
     });
     // an index above 88 was one of those above, and is read as 88
     each(0..=88, |index| {
-        let nibbles = (i16::MIN..=i16::MAX).flat_map(|predictor| {
+        let nibbles = domain::predictors().flat_map(|predictor| {
             let nibbles = 0..16;
             nibbles.map(move |nibble| block(predictor, index, nibble | second(predictor, nibble)))
         });

@@ -4,10 +4,9 @@ use mir.Syntax.{w16}
 use mir.Val.{SFits}
 use mir.ValLaws.{toZ-ofZ}
 use borrow.Author.Needs.{needs}
-use Rattle.adpcm_ima.specs.Step.{State, sixteen, stepped}
-use Rattle.adpcm_ima.specs.Table.{imaSteps}
-use Rattle.adpcm_ima.specs.View.{narrow}
-use Rattle.adpcm_ima.proofs.Bounds.{narrow-is}
+use Rattle.ima_nibble.specs.Step.{State, sixteen, stepped, narrow}
+use Rattle.ima_nibble.specs.Table.{imaSteps}
+use Rattle.ima_nibble.proofs.Bounds.{narrow-is}
 use Rattle.adpcm_ima.proofs.AdpcmImaState.decode.Statement.{statement}
 use Rattle.adpcm_ima.proofs.AdpcmImaState.decode.Tie as tie
 
@@ -15,7 +14,7 @@ returns : tie.Need-returns
 unfolding imaSteps
 returns c =
     let s = c .before .before .before .before .before .args in
-    let next = c .before .before .moved .ensures ∙ ap (λ (st : State). stepped sixteen imaSteps st (s .nibble)) (c .before .before .before .before .of .ensures .0) in
+    let next = c .before .before .moved .ensures ∙ ap (λ (st : State). stepped sixteen imaSteps st (s .nibble)) (c .before .before .before .before .widened .ensures .0) in
     let state = c .narrowed .ensures ∙ ap narrow next ∙ narrow-is imaSteps _ (s .nibble) in
     let f : SFits w16 (c .before .before .moved .result .predictor) = search needs in
     (state, toZ-ofZ w16 _ f ∙ sym (ap (λ (st : State). st .predictor) (c .narrowed .ensures)))

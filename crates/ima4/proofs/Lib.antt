@@ -1,6 +1,0 @@
-pub mod Cut
-pub mod Lengths
-pub mod Ran
-pub mod Round
-pub mod Theorems
-pub mod Turn

@@ -1,0 +1,4 @@
+pub mod Block
+pub mod Call
+pub mod Header
+pub mod Run

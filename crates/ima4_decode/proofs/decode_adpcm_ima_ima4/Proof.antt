@@ -1,0 +1,141 @@
+-- `ima4::decode::decode_adpcm_ima_ima4` meets its contract: a turn decodes a byte, so what is written and then what the rest decodes to is the block's. Assumes nothing.
+use mathlib.Core.Path.{_≡_, refl, sym, ap, _∙_, subst}
+use mathlib.Core.Bool.{true}
+use Prim.Native.Nat.{ℕ, _+_, _-_, _*_, _≤_, _<_}
+use native.Mathlib.Omega.{arith}
+use lib.ListN.{length, set, take, length-set}
+use mir.Syntax.{w16}
+use mir.Val.{SFits, toZ, ofZ}
+use mir.ValLaws.{toZ-ofZ}
+use borrow.Author.Needs.{needs}
+use Rattle.ima_nibble.specs.Step.{State, sixteen, stepped}
+use Rattle.ima_nibble.specs.Table.{imaSteps}
+use Rattle.ima_step.specs.View.{wideOf}
+use Rattle.ima_nibble.specs.Series.{done, after}
+use Rattle.ima_nibble.proofs.Bounds.{moved-lt, narrow-below}
+use Rattle.ima4_block.specs.Block.{decodedBlock}
+use Rattle.ima4_block.specs.Call.{answered, finished, one, decodeBlock}
+use Rattle.ima4_block.proofs.Lengths.{failed, passed, sized-are}
+use Rattle.ima4_block.proofs.Turn.{all, samplesFrom, two-samples, no-samples}
+use Rattle.ima4_decode.proofs.decode_adpcm_ima_ima4.Statement.{statement}
+use Rattle.ima4_decode.proofs.decode_adpcm_ima_ima4.Tie as tie
+
+abbrev Inv-loop : tie.InvT-loop
+Inv-loop buf out-samples₀ steps wide₀ k₀ out-samples wide k =
+    (after (take (2 * k) out-samples) (samplesFrom imaSteps k (wideOf wide) buf) ≡ samplesFrom imaSteps 0 (wideOf wide₀) buf)
+    × (length buf ≡ 34)
+    × (length out-samples ≡ 64)
+    × (k ≤ 32)
+    × (wide .index < 256)
+
+abbrev μ-loop : tie.MeasureT-loop
+μ-loop buf out-samples₀ steps wide₀ k₀ out-samples wide k = 32 - k
+
+returns : tie.Need-returns Inv-loop μ-loop
+unfolding decodeBlock
+returns c =
+    let is = c .refused .ensures in
+    rw (is .0, is .1, sym (c .before .before .one .ensures) ∙ failed (c .before .before .one .result) (c .before .if1 .taken)) refl
+
+-- behind the test of the lengths
+taken : (c : tie.Else1 Inv-loop μ-loop) → one (length (c .before .before .before .args .buf .now)) (length (c .before .before .before .args .out-samples .now)) ≡ true
+taken c = sym (c .before .one .ensures) ∙ passed (c .before .one .result) (c .if1 .left)
+
+lengths : (c : tie.Else1 Inv-loop μ-loop) → (length (c .before .before .before .args .buf .now) ≡ 34) × (length (c .before .before .before .args .out-samples .now) ≡ 64)
+lengths c = let a = c .before .before .before .args in sized-are 1 (length (a .buf .now)) (length (a .out-samples .now)) (taken c)
+
+loop-holds : tie.Need-loop-holds Inv-loop μ-loop
+loop-holds c =
+    let (b, o) = lengths (c .before .before .before .before) in
+    (refl, b, o, omega arith, c .widened .ensures .1)
+
+second-place : tie.Need-slice-set-from-second Inv-loop μ-loop
+second-place c =
+    let at = c .before .before .before .before .before .before .before .before .before .before in
+    let x = toZ w16 (ofZ w16 (c .before .before .before .before .before .moved .result .predictor)) in
+    let h = c .before .before .before .before .before .before .before .before .before .loop-test .taken in
+    omega (arith, length-set (at .loop .out-samples) (2 * at .loop .k) x, at .loop .inv .2, h)
+
+loop-again : tie.Need-loop-again Inv-loop μ-loop
+unfolding imaSteps
+loop-again c =
+    let at = c .before .before .before .before .before .before .before .before .before .before in
+    let inv = at .loop .inv in
+    let k = at .loop .k in
+    let w = wideOf (at .loop .wide) in
+    let out = at .loop .out-samples in
+    let first = c .before .before .before .before .before .moved in
+    let second = c .before .before .moved2 in
+    let f : SFits w16 (first .result .predictor) = search needs in
+    let g : SFits w16 (second .result .predictor) = search needs in
+    let low = first .ensures ∙ ap (stepped sixteen imaSteps w) (c .before .before .before .before .before .before .low-nibble .ensures) in
+    let high = second .ensures ∙ ap (stepped sixteen imaSteps (wideOf (first .result))) (c .before .before .before .high-nibble .ensures) in
+    let h : k < 32 = c .before .before .before .before .before .before .before .before .before .loop-test .taken in
+    let turn = two-samples imaSteps w (wideOf (first .result)) (wideOf (second .result)) (at .before .before .before .before .before .before .before .before .args .buf .now) out k low high (omega (arith, inv)) (omega (arith, inv)) in
+    let x = toZ w16 (ofZ w16 (first .result .predictor)) in
+    let y = toZ w16 (ofZ w16 (second .result .predictor)) in
+    let size = length-set (set out (2 * k) x) (2 * k + 1) y ∙ length-set out (2 * k) x ∙ inv .2 in
+    (rw (toZ-ofZ w16 _ f, toZ-ofZ w16 _ g) (turn ∙ inv .0), inv .1, size, omega (arith, h), moved-lt imaSteps (wideOf (first .result)) (wideOf (second .result)) _ (second .ensures))
+
+-- where the loop ends
+ends : (c : tie.After-loop Inv-loop μ-loop) → done (c .before .loop .out-samples) (wideOf (c .before .loop .wide)) ≡ samplesFrom imaSteps 0 (wideOf (c .before .before .widened .result)) (c .before .before .before .before .before .before .before .before .before .args .buf .now)
+ends c =
+    let at = c .before in
+    let inv = at .loop .inv in
+    let out = at .loop .out-samples in
+    let w = wideOf (at .loop .wide) in
+    let bytes = at .before .before .before .before .before .before .before .before .args .buf .now in
+    let whole = samplesFrom imaSteps 0 (wideOf (at .before .widened .result)) bytes in
+    let last : at .loop .k ≡ 32 = omega (arith, c .loop-test .left, inv .3) in
+    sym (all out 64 w (omega (arith, inv .2)))
+    ∙ ap (after (take 64 out)) (sym (no-samples imaSteps w bytes (inv .1)))
+    ∙ subst (λ (k : ℕ). after (take (2 * k) out) (samplesFrom imaSteps k w bytes) ≡ whole) last (inv .0)
+
+same-length : tie.Need-same-length Inv-loop μ-loop
+same-length c = let at = c .before .before in at .loop .inv .2 ∙ sym (lengths (at .before .before .before .before .before) .1)
+
+returns-2 : tie.Need-returns-2 Inv-loop μ-loop
+unfolding decodeBlock decodedBlock
+returns-2 c =
+    let at = c .before .before in
+    let s = at .before .before .before .before .before in
+    let a = s .before .before .before .args in
+    let bytes = a .buf .now in
+    let from = at .before .widened .ensures .0 ∙ at .before .before .started .ensures in
+    let state = c .narrowed .ensures ∙ narrow-below (wideOf (at .loop .wide)) (at .loop .inv .4) in
+    let block = ends (c .before) ∙ ap (λ (st : State). samplesFrom imaSteps 0 st bytes) from in
+    rw (taken s) (ap (λ (st : State). answered 0 st (at .loop .out-samples)) state ∙ ap finished block)
+
+pub decode-adpcm-ima-ima4-spec : {M : Type 1} → statement M
+decode-adpcm-ima-ima4-spec =
+    tie.close
+    (tie.spec
+    Inv-loop
+    μ-loop
+    (λ c κs. search needs)
+    (λ c κs. search needs)
+    returns
+    (λ c. omega (arith, lengths (c .before) .0))
+    (λ c. omega (arith, lengths (c .before .before) .0))
+    (λ c κs. search needs)
+    (λ c κs. search needs)
+    loop-holds
+    (λ c. search needs)
+    (λ c. search needs)
+    (λ c κs. search needs)
+    (λ c κs. search needs)
+    (λ c κs. search needs)
+    (λ c κs. search needs)
+    (λ c. search needs)
+    (λ c. search needs)
+    (λ c. search needs)
+    (λ c. search needs)
+    (λ c. search needs)
+    (λ c. search needs)
+    second-place
+    (λ c. search needs)
+    (λ c. search needs)
+    loop-again
+    (λ c κs. search needs)
+    same-length
+    returns-2)

@@ -1,0 +1,68 @@
+// ima4 blocks to samples, one at a time and in runs. A state goes in by value and comes back.
+use adpcm_ima::AdpcmImaState;
+use adpcm_ima::IMA_STEP_TABLE;
+use ima4_layout::Answer;
+use ima4_layout::one;
+use ima4_layout::refused;
+use ima4_layout::some;
+use ima4_layout::started;
+use num::high_nibble;
+use num::low_nibble;
+ghost use mathlib.Core.Path.{_≡_};
+ghost use Rattle.adpcm_ima.specs.View.{stateOf};
+ghost use Rattle.ima4_block.specs.Call.{answered, decodeBlock, decodeRun};
+
+// One block, 34 bytes, to 64 samples.
+pub fn decode_adpcm_ima_ima4(buf: &[u8], state: AdpcmImaState, out_samples: &mut [i16]) -> Answer
+    ensures { λ r. ⌜ answered (r .refusal) (stateOf (r .state)) (now («out_samples» .exit)) ≡ decodeBlock (stateOf state) (now (buf .entry)) (now («out_samples» .entry)) ⌝ }
+{
+    if !one(buf.len(), out_samples.len()) {
+        return refused(state);
+    }
+    let steps = IMA_STEP_TABLE;
+    let mut wide = started(state, buf[0], buf[1]).widened();
+    let mut k = 0;
+    while k < 32 {
+        let byte = buf[k + 2];
+        let between = wide.moved(&steps, low_nibble(byte));
+        wide = between.moved(&steps, high_nibble(byte));
+        let first = between.predictor;
+        let second = wide.predictor;
+        out_samples[2 * k] = first;
+        out_samples[2 * k + 1] = second;
+        k += 1;
+    }
+    Answer {
+        refusal: 0,
+        state: AdpcmImaState::narrowed(wide),
+    }
+}
+
+// 0 to 1,024 blocks, each lent onward, the state handed on.
+pub fn decode_adpcm_ima_ima4_run(
+    buf: &[u8],
+    state: AdpcmImaState,
+    out_samples: &mut [i16],
+) -> Answer
+    ensures { λ r. ⌜ answered (r .refusal) (stateOf (r .state)) (now («out_samples» .exit)) ≡ decodeRun (stateOf state) (now (buf .entry)) (now («out_samples» .entry)) ⌝ }
+{
+    if !some(buf.len(), out_samples.len()) {
+        return refused(state);
+    }
+    let n = buf.len() / 34;
+    let mut next = state;
+    let mut i = 0;
+    while i < n {
+        let block = decode_adpcm_ima_ima4(
+            &buf[34 * i..34 * i + 34],
+            next,
+            &mut out_samples[64 * i..64 * i + 64],
+        );
+        next = block.state;
+        i += 1;
+    }
+    Answer {
+        refusal: 0,
+        state: next,
+    }
+}

@@ -1,0 +1,68 @@
+// Samples to ima4 blocks, one at a time and in runs. A state goes in by value and comes back.
+use adpcm_ima::AdpcmImaState;
+use adpcm_ima::IMA_STEP_TABLE;
+use ima4_layout::Answer;
+use ima4_layout::header_of;
+use ima4_layout::lowered;
+use ima4_layout::one;
+use ima4_layout::refused;
+use ima4_layout::some;
+use num::pack;
+ghost use mathlib.Core.Path.{_≡_};
+ghost use Rattle.adpcm_ima.specs.View.{stateOf};
+ghost use Rattle.ima4_block.specs.Call.{answered, encodeBlock, encodeRun};
+
+// 64 samples to one block, 34 bytes.
+pub fn encode_adpcm_ima_ima4(samples: &[i16], state: AdpcmImaState, out_buf: &mut [u8]) -> Answer
+    ensures { λ r. ⌜ answered (r .refusal) (stateOf (r .state)) (now («out_buf» .exit)) ≡ encodeBlock (stateOf state) (now (samples .entry)) (now («out_buf» .entry)) ⌝ }
+{
+    if !one(out_buf.len(), samples.len()) {
+        return refused(state);
+    }
+    let header = header_of(state);
+    out_buf[0] = header.high;
+    out_buf[1] = header.low;
+    let steps = IMA_STEP_TABLE;
+    let mut wide = lowered(state).widened();
+    let mut k = 0;
+    while k < 32 {
+        let low = wide.coded(&steps, samples[2 * k]);
+        let high = low.next.coded(&steps, samples[2 * k + 1]);
+        wide = high.next;
+        out_buf[k + 2] = pack(low.nibble, high.nibble);
+        k += 1;
+    }
+    Answer {
+        refusal: 0,
+        state: AdpcmImaState::narrowed(wide),
+    }
+}
+
+// 0 to 1,024 blocks, each lent onward, the state handed on.
+pub fn encode_adpcm_ima_ima4_run(
+    samples: &[i16],
+    state: AdpcmImaState,
+    out_buf: &mut [u8],
+) -> Answer
+    ensures { λ r. ⌜ answered (r .refusal) (stateOf (r .state)) (now («out_buf» .exit)) ≡ encodeRun (stateOf state) (now (samples .entry)) (now («out_buf» .entry)) ⌝ }
+{
+    if !some(out_buf.len(), samples.len()) {
+        return refused(state);
+    }
+    let n = out_buf.len() / 34;
+    let mut next = state;
+    let mut i = 0;
+    while i < n {
+        let block = encode_adpcm_ima_ima4(
+            &samples[64 * i..64 * i + 64],
+            next,
+            &mut out_buf[34 * i..34 * i + 34],
+        );
+        next = block.state;
+        i += 1;
+    }
+    Answer {
+        refusal: 0,
+        state: next,
+    }
+}

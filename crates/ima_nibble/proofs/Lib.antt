@@ -1,0 +1,10 @@
+pub mod Bounds
+pub mod Bytes
+pub mod Counted
+pub mod Fused
+pub mod Held
+pub mod Parts
+pub mod Reach
+pub mod Rising
+pub mod Room
+pub mod Series

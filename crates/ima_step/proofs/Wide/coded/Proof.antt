@@ -1,0 +1,88 @@
+-- `ima_step::Wide::coded` meets its contract: every part is the definition's of the same step and difference. Assumes nothing.
+use mathlib.Core.Path.{_≡_, sym, ap, ap₂, _∙_}
+use mathlib.Core.Bool.{Bool, cond}
+use Prim.Native.Nat.{ℕ, _+_, _-_, _*_, _/_, min}
+use native.Mathlib.Omega.{arith}
+use lib.IntN.{ℤ, pos, negsuc, natAbs, _+ℤ_, _-ℤ_}
+use lib.ListN.{getD}
+use lib.Signed.{ltZ}
+use mir.Syntax.{w16, w32}
+use mir.Val.{SFits, toZ, ofZ}
+use mir.ValLaws.{toZ-ofZ}
+use borrow.Author.Needs.{needs}
+use Rattle.num.specs.Clamp.{clamp}
+use Rattle.ima_nibble.specs.Step.{state, sixteen, stepped, stepAt, nibbleOf, sign, part, m, takes, greedy}
+use Rattle.ima_step.specs.View.{wideOf}
+use Rattle.ima_nibble.proofs.Counted.{reachedOf, counted}
+use Rattle.ima_nibble.proofs.Fused.{sign-is, predicts, raises}
+use Rattle.ima_step.proofs.Wide.coded.Statement.{statement}
+use Rattle.ima_step.proofs.Wide.coded.Tie as tie
+
+-- where `towards` and `raised` go
+abbrev aim : ℤ → Bool → ℕ → ℤ
+aim p is d = clamp (negsuc 32767) (pos 32767) (cond is (p -ℤ pos d) (p +ℤ pos d))
+
+abbrev lift : ℕ → ℕ → ℕ → ℕ
+lift i four above = min (i + (3 * four + 2 * above) - 1) 88
+
+returns : tie.Need-returns
+unfolding nibbleOf stepAt stepped
+returns c =
+    let start = c .before .before .before .before .before .before .before .before .before .before .before .before .before in
+    let p = start .args .self .predictor in
+    let i = min (start .args .self .index) 88 in
+    let s = getD (start .args .steps .now) i 0 in
+    let x = start .args .sample -ℤ p in
+    let r = natAbs x in
+    let is = ltZ x (pos 0) in
+    let f : SFits w16 p = search needs in
+    let g : SFits w16 (start .args .sample) = search needs in
+    let k : SFits w32 (c .before .before .before .before .before .before .before .before .before .difference .result) = search needs in
+    let h : SFits w16 (c .before .towards .result) = search needs in
+    let i-is : c .before .before .before .before .before .before .before .before .before .before .before .before .lesser .result ≡ i = c .before .before .before .before .before .before .before .before .before .before .before .before .lesser .ensures in
+    let s-is : c .before .before .before .before .before .before .before .before .before .before .before .step .result ≡ s = c .before .before .before .before .before .before .before .before .before .before .before .step .ensures .0 ∙ ap (λ (n : ℕ). getD (start .args .steps .now) n 0) i-is in
+    let z = toZ w32 (ofZ w32 (c .before .before .before .before .before .before .before .before .before .difference .result)) in
+    let x-is : z ≡ x = toZ-ofZ w32 _ k ∙ c .before .before .before .before .before .before .before .before .before .difference .ensures .0 ∙ ap₂ _-ℤ_ (toZ-ofZ w16 _ g) (toZ-ofZ w16 _ f) in
+    let r-is : c .before .before .before .before .before .before .before .before .absolute .result ≡ r = c .before .before .before .before .before .before .before .before .absolute .ensures ∙ ap natAbs x-is in
+    let above : c .before .before .before .before .before .before .before .reached .result ≡ reachedOf s s r = c .before .before .before .before .before .before .before .reached .ensures .0 ∙ ap₂ (λ (a b : ℕ). reachedOf a a b) s-is r-is in
+    let four : c .before .before .before .before .before .before .takes .result ≡ part (takes r s) 1 = c .before .before .before .before .before .before .takes .ensures .0 ∙ ap₂ (λ (a b : ℕ). part (takes b a) 1) s-is r-is in
+    let below : c .before .before .before .before .reached2 .result ≡ reachedOf 0 s r = c .before .before .before .before .reached2 .ensures .0 ∙ ap₂ (reachedOf 0) s-is r-is in
+    let side : c .before .before .before .before .before .sign .result ≡ sign x = c .before .before .before .before .before .sign .ensures .0 ∙ ap sign x-is in
+    let magnitude = counted s r in
+    let n = c .before .before .before .before .before .sign .result + c .before .before .before .before .reached2 .result + c .before .before .before .before .before .before .takes .result + c .before .before .before .before .before .before .before .reached .result in
+    let n-is : n ≡ sign x + greedy s r = omega (arith, above, four, below, side, magnitude) in
+    let v-is : n ≡ part is 8 + greedy s r = n-is ∙ ap (λ (a : ℕ). a + greedy s r) (sign-is x) in
+    let d-is : c .before .before .before .taken .result + c .before .before .before .before .before .before .before .before .before .before .before .step .result / 8 ≡ m s (greedy s r) + s / 8 = ap₂ (λ (a b : ℕ). a + b / 8) (c .before .before .before .taken .ensures .0 ∙ ap₂ (λ (a b : ℕ). m a (greedy a b)) s-is r-is) s-is in
+    let next =
+    toZ-ofZ w16 _ h
+    ∙ c .before .towards .ensures
+    ∙ ap₂ (λ (q : ℤ) (d : ℕ). aim q (ltZ z (pos 0)) d) (toZ-ofZ w16 _ f) d-is
+    ∙ ap (λ (b : Bool). aim p b (m s (greedy s r) + s / 8)) (ap (λ (y : ℤ). ltZ y (pos 0)) x-is)
+    ∙ predicts s r is (negsuc 32767) (pos 32767) p in
+    let index =
+    c .raised .ensures
+    ∙ ap₂ (λ (a b : ℕ). lift a b (c .before .before .before .before .before .before .before .reached .result)) i-is four
+    ∙ ap (lift i (part (takes r s) 1)) above
+    ∙ raises s r is 88 i in
+    (n-is, omega arith, ap₂ state next index ∙ ap (stepped sixteen (start .args .steps .now) (wideOf (start .args .self))) (sym v-is))
+
+pub coded-spec : {M : Type 1} → statement M
+coded-spec =
+    tie.close
+    (tie.spec
+    (λ c κs. search needs)
+    (λ c κs. search needs)
+    (λ c κs. search needs)
+    (λ c κs. search needs)
+    (λ c κs. search needs)
+    (λ c κs. search needs)
+    (λ c κs. search needs)
+    (λ c κs. search needs)
+    (λ c. search needs)
+    (λ c. search needs)
+    (λ c. search needs)
+    (λ c κs. search needs)
+    (λ c. search needs)
+    (λ c κs. search needs)
+    (λ c κs. search needs)
+    returns)

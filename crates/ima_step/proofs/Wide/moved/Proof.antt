@@ -1,0 +1,21 @@
+-- `ima_step::Wide::moved` meets its contract: the predictor and the index are the definition's. Assumes nothing.
+use mathlib.Core.Path.{refl}
+use mir.Syntax.{w16}
+use mir.Val.{SFits}
+use mir.ValLaws.{toZ-ofZ}
+use borrow.Author.Needs.{needs}
+use Rattle.ima_nibble.specs.Step.{stepped, stepAt}
+use Rattle.ima_step.proofs.Wide.moved.Statement.{statement}
+use Rattle.ima_step.proofs.Wide.moved.Tie as tie
+
+returns : tie.Need-returns
+unfolding stepped stepAt
+returns c =
+    let s = c .before .before .before .before .before in
+    let f : SFits w16 (s .args .self .predictor) = search needs in
+    let g : SFits w16 (c .before .predicted .result) = search needs in
+    rw (toZ-ofZ w16 _ g, c .before .predicted .ensures, toZ-ofZ w16 _ f, c .held .ensures, c .before .before .before .step .ensures .0, c .before .before .before .before .lesser .ensures) refl
+
+pub moved-spec : {M : Type 1} → statement M
+moved-spec =
+    tie.close (tie.spec (λ c κs. search needs) (λ c κs. search needs) (λ c κs. search needs) (λ c κs. search needs) returns)

@@ -1,0 +1,67 @@
+// One step of IMA ADPCM, as a block's loop calls it: the table lent, and a state that is wide inside. `moved` decodes a nibble, `coded` encodes a sample.
+mod greedy;
+mod nibble;
+
+use greedy::raised;
+use greedy::taken;
+use greedy::towards;
+use nibble::absolute;
+use nibble::difference;
+use nibble::held;
+use nibble::predicted;
+use nibble::reached;
+use nibble::sign;
+use nibble::step;
+use nibble::takes;
+use num::lesser;
+ghost use mathlib.Core.Path.{_≡_};
+ghost use Prim.Native.Nat.{_<_};
+ghost use Rattle.ima_nibble.specs.Step.{sixteen, stepped, emitted};
+ghost use Rattle.ima_step.specs.View.{wideOf};
+
+// A predictor, and an index that needs no widening before it is a place in the table. Any index is taken: one above 88 is read as 88.
+pub struct Wide {
+    pub predictor: i16,
+    pub index: usize,
+}
+
+pub struct Coded {
+    pub nibble: u32,
+    pub next: Wide,
+}
+
+impl Wide {
+    // Only the lowest four bits of `nibble` count. The sample that it decodes to is the new predictor.
+    pub fn moved(self, steps: &[u16; 89], nibble: u32) -> Self
+        ensures { λ r. ⌜ wideOf r ≡ stepped sixteen (now (steps .entry)) (wideOf self) nibble ⌝ }
+    {
+        let place = lesser(self.index, 88);
+        let s = step(steps, place);
+        let predictor = predicted(s, self.predictor, nibble);
+        Self {
+            predictor,
+            index: held(place, nibble),
+        }
+    }
+
+    // The nibble of a sample, and the state behind it, with what both need found once.
+    pub fn coded(self, steps: &[u16; 89], sample: i16) -> Coded
+        ensures { λ r. ⌜ (r .nibble ≡ emitted sixteen (now (steps .entry)) (wideOf self) sample) × (r .nibble < 16) × (wideOf (r .next) ≡ stepped sixteen (now (steps .entry)) (wideOf self) (r .nibble)) ⌝ }
+    {
+        let index = lesser(self.index, 88);
+        let s = step(steps, index);
+        let x = difference(self.predictor, sample);
+        let r = absolute(x);
+        let above = reached(s, s, r);
+        let four = takes(r, s);
+        let nibble = sign(x) + reached(0, s, r) + four + above;
+        let predictor = towards(self.predictor, x < 0, taken(s, r) + s / 8);
+        Coded {
+            nibble,
+            next: Self {
+                predictor,
+                index: raised(index, four, above),
+            },
+        }
+    }
+}

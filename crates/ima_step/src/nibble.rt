@@ -1,0 +1,101 @@
+// The arithmetic of one nibble, each function a line or two of the definition.
+use num::clamp;
+use num::lesser;
+use num::monus;
+ghost use mathlib.Core.Path.{_≡_};
+ghost use mathlib.Core.Bool.{cond};
+ghost use Prim.Native.Nat.{_+_, _/_, _%_, _≤_, _<_};
+ghost use lib.Dec.{eqb};
+ghost use lib.IntN.{pos, negsuc, negℤ, natAbs, _-ℤ_};
+ghost use lib.ListN.{getD};
+ghost use lib.Signed.{mag};
+ghost use Rattle.ima_nibble.specs.Step as Step;
+ghost use Rattle.ima_nibble.specs.Step.{bit, d, indexed};
+
+pub(crate) fn step(steps: &[u16; 89], index: usize) -> u32
+    requires { ⌜ index ≤ 88 ⌝ }
+    ensures { λ r. ⌜ (r ≡ getD (now (steps .entry)) index 0) × (r < 65536) ⌝ }
+{
+    extended(steps[index])
+}
+
+// Of an entry behind a reference nothing is known, of an argument that it fits its type.
+fn extended(x: u16) -> u32
+    ensures { λ r. ⌜ (r ≡ x) × (r < 65536) ⌝ }
+{
+    x as u32
+}
+
+pub(crate) fn predicted(s: u32, predictor: i16, nibble: u32) -> i16
+    requires { ⌜ s < 65536 ⌝ }
+    ensures { λ r. ⌜ r ≡ Step.predicted (negsuc 32767) (pos 32767) s predictor nibble ⌝ }
+{
+    let sum = predictor as i32 + change(s, nibble);
+    clamp(-32768, 32767, sum) as i16
+}
+
+// Bit 8 subtracts, otherwise it is added.
+fn change(s: u32, nibble: u32) -> i32
+    requires { ⌜ s < 65536 ⌝ }
+    ensures { λ r. ⌜ (r ≡ cond (bit 8 nibble) (negℤ (pos (d s nibble))) (pos (d s nibble))) × (mag r ≤ 131072) ⌝ }
+{
+    let d = size(s, nibble) as i32;
+    if nibble / 8 % 2 == 1 { 0 - d } else { d }
+}
+
+fn size(s: u32, nibble: u32) -> u32
+    requires { ⌜ s < 65536 ⌝ }
+    ensures { λ r. ⌜ (r ≡ d s nibble) × (r < 131072) ⌝ }
+{
+    let m = part(nibble / 4, s) + part(nibble / 2, s / 2) + part(nibble, s / 4);
+    m + s / 8
+}
+
+fn part(bit: u32, x: u32) -> u32
+    ensures { λ r. ⌜ (r ≡ Step.part (eqb (bit % 2) 1) x) × (r ≤ x) ⌝ }
+{
+    if bit % 2 == 1 { x } else { 0 }
+}
+
+// The move of a nibble with bit 4 is twice its two lower bits and 2, and that of any other -1. Both are one less than what is added.
+pub(crate) fn held(index: usize, nibble: u32) -> usize
+    requires { ⌜ index ≤ 88 ⌝ }
+    ensures { λ r. ⌜ r ≡ indexed 88 index nibble ⌝ }
+{
+    let raised = index + part(nibble / 4, 2 * (nibble % 4) + 3) as usize;
+    lesser(monus(raised, 1), 88)
+}
+
+pub(crate) fn difference(predictor: i16, sample: i16) -> i32
+    ensures { λ r. ⌜ (r ≡ sample -ℤ predictor) × (mag r < 131072) ⌝ }
+{
+    sample as i32 - predictor as i32
+}
+
+pub(crate) fn sign(x: i32) -> u32
+    ensures { λ r. ⌜ (r ≡ Step.sign x) × (r ≤ 8) ⌝ }
+{
+    if x < 0 { 8 } else { 0 }
+}
+
+pub(crate) fn absolute(x: i32) -> u32
+    requires { ⌜ mag x < 131072 ⌝ }
+    ensures { λ r. ⌜ r ≡ natAbs x ⌝ }
+{
+    if x < 0 { (0 - x) as u32 } else { x as u32 }
+}
+
+// What the greedy taking gives is how many of the seven sums of parts the difference reaches: s, and three below and three above it. Counting them
+// asks for no branch. How many of a + s/4, a + s/2 and a + s/2 + s/4 it reaches:
+pub(crate) fn reached(a: u32, s: u32, r: u32) -> u32
+    requires { ⌜ (a < 65536) × (s < 65536) ⌝ }
+    ensures { λ n. ⌜ (n ≡ Step.part (Step.takes r (a + s / 4)) 1 + Step.part (Step.takes r (a + s / 2)) 1 + Step.part (Step.takes r (a + s / 2 + s / 4)) 1) × (n ≤ 3) ⌝ }
+{
+    takes(r, a + s / 4) + takes(r, a + s / 2) + takes(r, a + s / 2 + s / 4)
+}
+
+pub(crate) fn takes(r: u32, x: u32) -> u32
+    ensures { λ n. ⌜ (n ≡ Step.part (Step.takes r x) 1) × (n ≤ 1) ⌝ }
+{
+    if r < x { 0 } else { 1 }
+}

@@ -1,3 +1,0 @@
-pub mod Sizes
-pub mod Table
-pub mod Weave
