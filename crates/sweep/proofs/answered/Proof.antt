@@ -14,25 +14,28 @@ use Rattle.sweep.specs.Answers.{packed, answerOf}
 use Rattle.sweep.proofs.answered.Statement.{statement}
 use Rattle.sweep.proofs.answered.Tie as tie
 
-emits : (c : tie.After-nibble) → c .nibble .result ≡ emitted sixteen (c .before .args .steps .now) (wideOf (c .before .args .wide)) (c .before .args .x)
-emits c = c .nibble .ensures .0 ∙ ap (emitted sixteen (c .before .args .steps .now) (wideOf (c .before .args .wide))) (toZ-ofZ w16 _ (c .before .fits .x))
+emits : (c : tie.After-coded) → c .coded .result .nibble ≡ emitted sixteen (c .before .args .steps .now) (wideOf (c .before .args .wide)) (c .before .args .x)
+emits c = c .coded .ensures .0 ∙ ap (emitted sixteen (c .before .args .steps .now) (wideOf (c .before .args .wide))) (toZ-ofZ w16 _ (c .before .fits .x))
 
 add-result : tie.Need-add-result
-add-result c = record { fits = omega (arith, c .before .before .before .nibble .ensures .1, c .struct-known .given) }
+add-result c = record { fits = omega (arith, c .before .before .before .coded .ensures .1, c .struct-known2 .given) }
 
 add-result-2 : tie.Need-add-result-2
-add-result-2 c = record { fits = omega (arith, c .before .before .before .before .before .nibble .ensures .1, c .biased .ensures .1, c .before .before .struct-known .given) }
+add-result-2 c =
+    let known = c .before .before in
+    record { fits = omega (arith, known .before .before .before .coded .ensures .1, c .biased .ensures .1, known .struct-known2 .given) }
 
 returns : tie.Need-returns
 unfolding answerOf
 returns c =
-    let before = c .before .before .before .before .before in
+    let narrowed = c .before .before .before .before in
+    let before = narrowed .before in
     let a = before .before .args in
-    let n = before .nibble .result in
-    let r = c .before .before .before .narrowed .result in
+    let n = before .coded .result .nibble in
+    let r = narrowed .narrowed .result in
     let f : SFits w16 (r .predictor) = search needs in
     let high = c .biased .ensures .0 ∙ ap (λ (z : ℤ). natAbs (z +ℤ pos 32768)) (toZ-ofZ w16 _ f) in
-    let next = c .before .before .before .narrowed .ensures ∙ ap narrow (c .before .before .before .before .moved .ensures) ∙ narrow-is (a .steps .now) (wideOf (a .wide)) n in
+    let next = narrowed .narrowed .ensures ∙ ap narrow (before .coded .ensures .2) ∙ narrow-is (a .steps .now) (wideOf (a .wide)) n in
     ap (λ (b : ℕ). n + 256 * r .«step_index» + 65536 * b) high
     ∙ ap (packed n) next
     ∙ ap (λ (v : ℕ). packed v (stepped sixteen (a .steps .now) (wideOf (a .wide)) v)) (emits before)
@@ -41,7 +44,6 @@ pub answered-spec : {M : Type 1} → statement M
 answered-spec =
     tie.close
     (tie.spec
-    (λ c κs. search needs)
     (λ c κs. search needs)
     (λ c κs. search needs)
     (λ c. search needs)
