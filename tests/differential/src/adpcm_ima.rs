@@ -14,28 +14,33 @@ use crate::report::Report;
 use crate::sweep;
 
 pub fn reports(progress: bool) -> Vec<Report> {
+    let [decoded, decoded_lent] = decode(progress);
     vec![
-        decode(progress, "decode_adpcm_ima", ours::decode),
+        decoded,
         encode(progress, "encode_adpcm_ima", ours::encode),
-        decode(progress, "decode_adpcm_ima lent", lent::decode),
+        decoded_lent,
         encode(progress, "encode_adpcm_ima lent", lent::encode),
         sweep::some(progress),
     ]
 }
 
-fn decode(
-    progress: bool,
-    name: &'static str,
-    ours: impl Fn(Before<u8>) -> After<i16> + Sync,
-) -> Report {
-    let report = Report::start(progress, name);
+/// Over C, and lent; the oracle is asked once for both.
+fn decode(progress: bool) -> [Report; 2] {
+    let over_c = Report::start(progress, "decode_adpcm_ima");
+    let in_place = Report::start(progress, "decode_adpcm_ima lent");
     each(0..=u8::MAX, |index| {
         for predictor in predictors() {
-            let inputs = (0..=u8::MAX).map(|byte| (byte, predictor, index));
-            report.compare(inputs, &ours, oracle::decode);
+            let inputs = || (0..=u8::MAX).map(|byte| (byte, predictor, index));
+            let mut answers = [(0, 0, 0); 256];
+            for (answer, input) in answers.iter_mut().zip(inputs()) {
+                *answer = oracle::decode(input);
+            }
+            let answer = |(byte, ..): Before<u8>| answers[usize::from(byte)];
+            over_c.compare(inputs(), ours::decode, answer);
+            in_place.compare(inputs(), lent::decode, answer);
         }
     });
-    report
+    [over_c, in_place]
 }
 
 fn encode(
