@@ -19,8 +19,14 @@ returns c =
     let out = a .out .now in
     let room : length out ≡ 8245 = search needs in
     let few₁ = ten-digits (l .count) (search needs) in
-    let few₂ = c .before .before .before .before .before .before .before .before .before .put-place .ensures .2 in
     let few₃ = ten-digits (l .peak) (search needs) in
+    let c₆ = c .before .before .before in
+    let c₅ = c₆ .before .before .before in
+    let c₄ = c₅ .before .before .before in
+    let c₃ = c₄ .before .before in
+    let c₂ = c₃ .before .before .before in
+    let c₁ = c₂ .before .before in
+    let few₂ = c₄ .put-place .ensures .2 in
     let t₁ = ascii "changed " in
     let t₂ = t₁ ++ decimal (l .count) in
     let t₃ = t₂ ++ ascii " first " in
@@ -33,13 +39,13 @@ returns c =
     let l₅ = length-append t₄ (ascii " peak ") in
     let l₆ = length-append t₅ (decimal (l .peak)) in
     let l₇ = length-append t₆ (ascii "\n") in
-    let s₁ = stands-more out 0 [] (ascii "changed ") 0 (c .before .before .before .before .before .before .before .before .before .before .before .before .before .before .before .before .put .result) out (c .before .before .before .before .before .before .before .before .before .before .before .before .before .before .before .before .put .last .0) (omega (arith, room)) (stands-none out 0) (c .before .before .before .before .before .before .before .before .before .before .before .before .before .before .before .before .put .ensures .0) (c .before .before .before .before .before .before .before .before .before .before .before .before .before .before .before .before .put .ensures .1) in
-    let s₂ = stands-more out 0 t₁ (decimal (l .count)) (c .before .before .before .before .before .before .before .before .before .before .before .before .before .before .before .before .put .result) (c .before .before .before .before .before .before .before .before .before .before .before .before .before .before .put-decimal .result) (c .before .before .before .before .before .before .before .before .before .before .before .before .before .before .before .before .put .last .0) (c .before .before .before .before .before .before .before .before .before .before .before .before .before .before .put-decimal .last .0) (omega (arith, room, few₁, l₂)) s₁ (c .before .before .before .before .before .before .before .before .before .before .before .before .before .before .put-decimal .ensures .0) (c .before .before .before .before .before .before .before .before .before .before .before .before .before .before .put-decimal .ensures .1) in
-    let s₃ = stands-more out 0 t₂ (ascii " first ") (c .before .before .before .before .before .before .before .before .before .before .before .before .before .before .put-decimal .result) (c .before .before .before .before .before .before .before .before .before .before .before .put2 .result) (c .before .before .before .before .before .before .before .before .before .before .before .before .before .before .put-decimal .last .0) (c .before .before .before .before .before .before .before .before .before .before .before .put2 .last .0) (omega (arith, room, few₁, l₂, l₃)) s₂ (c .before .before .before .before .before .before .before .before .before .before .before .put2 .ensures .0) (c .before .before .before .before .before .before .before .before .before .before .before .put2 .ensures .1) in
-    let s₄ = stands-more out 0 t₃ (place (placeOf (l .first))) (c .before .before .before .before .before .before .before .before .before .before .before .put2 .result) (c .before .before .before .before .before .before .before .before .before .put-place .result) (c .before .before .before .before .before .before .before .before .before .before .before .put2 .last .0) (c .before .before .before .before .before .before .before .before .before .put-place .last .0) (omega (arith, room, few₁, l₂, l₃, few₂, l₄)) s₃ (c .before .before .before .before .before .before .before .before .before .put-place .ensures .0) (c .before .before .before .before .before .before .before .before .before .put-place .ensures .1) in
-    let s₅ = stands-more out 0 t₄ (ascii " peak ") (c .before .before .before .before .before .before .before .before .before .put-place .result) (c .before .before .before .before .before .before .put3 .result) (c .before .before .before .before .before .before .before .before .before .put-place .last .0) (c .before .before .before .before .before .before .put3 .last .0) (omega (arith, room, few₁, l₂, l₃, few₂, l₄, l₅)) s₄ (c .before .before .before .before .before .before .put3 .ensures .0) (c .before .before .before .before .before .before .put3 .ensures .1) in
-    let s₆ = stands-more out 0 t₅ (decimal (l .peak)) (c .before .before .before .before .before .before .put3 .result) (c .before .before .before .put-decimal2 .result) (c .before .before .before .before .before .before .put3 .last .0) (c .before .before .before .put-decimal2 .last .0) (omega (arith, room, few₁, l₂, l₃, few₂, l₄, l₅, few₃, l₆)) s₅ (c .before .before .before .put-decimal2 .ensures .0) (c .before .before .before .put-decimal2 .ensures .1) in
-    let s₇ = stands-more out 0 t₆ (ascii "\n") (c .before .before .before .put-decimal2 .result) (c .put4 .result) (c .before .before .before .put-decimal2 .last .0) (c .put4 .last .0) (omega (arith, room, few₁, l₂, l₃, few₂, l₄, l₅, few₃, l₆, l₇)) s₆ (c .put4 .ensures .0) (c .put4 .ensures .1) in
+    let s₁ = stands-more out 0 [] (ascii "changed ") 0 (c₁ .put .result) out (c₁ .put .last .0) (omega (arith, room)) (stands-none out 0) (c₁ .put .ensures .0) (c₁ .put .ensures .1) in
+    let s₂ = stands-more out 0 t₁ (decimal (l .count)) (c₁ .put .result) (c₂ .put-decimal .result) (c₁ .put .last .0) (c₂ .put-decimal .last .0) (omega (arith, room, few₁, l₂)) s₁ (c₂ .put-decimal .ensures .0) (c₂ .put-decimal .ensures .1) in
+    let s₃ = stands-more out 0 t₂ (ascii " first ") (c₂ .put-decimal .result) (c₃ .put2 .result) (c₂ .put-decimal .last .0) (c₃ .put2 .last .0) (omega (arith, room, few₁, l₂, l₃)) s₂ (c₃ .put2 .ensures .0) (c₃ .put2 .ensures .1) in
+    let s₄ = stands-more out 0 t₃ (place (placeOf (l .first))) (c₃ .put2 .result) (c₄ .put-place .result) (c₃ .put2 .last .0) (c₄ .put-place .last .0) (omega (arith, room, few₁, l₂, l₃, few₂, l₄)) s₃ (c₄ .put-place .ensures .0) (c₄ .put-place .ensures .1) in
+    let s₅ = stands-more out 0 t₄ (ascii " peak ") (c₄ .put-place .result) (c₅ .put3 .result) (c₄ .put-place .last .0) (c₅ .put3 .last .0) (omega (arith, room, few₁, l₂, l₃, few₂, l₄, l₅)) s₄ (c₅ .put3 .ensures .0) (c₅ .put3 .ensures .1) in
+    let s₆ = stands-more out 0 t₅ (decimal (l .peak)) (c₅ .put3 .result) (c₆ .put-decimal2 .result) (c₅ .put3 .last .0) (c₆ .put-decimal2 .last .0) (omega (arith, room, few₁, l₂, l₃, few₂, l₄, l₅, few₃, l₆)) s₅ (c₆ .put-decimal2 .ensures .0) (c₆ .put-decimal2 .ensures .1) in
+    let s₇ = stands-more out 0 t₆ (ascii "\n") (c₆ .put-decimal2 .result) (c .put4 .result) (c₆ .put-decimal2 .last .0) (c .put4 .last .0) (omega (arith, room, few₁, l₂, l₃, few₂, l₄, l₅, few₃, l₆, l₇)) s₆ (c .put4 .ensures .0) (c .put4 .ensures .1) in
     (s₇, omega (arith, s₇ .0, few₁, few₂, few₃, l₂, l₃, l₄, l₅, l₆, l₇))
 
 pub line-spec : {M : Type 1} → statement M

@@ -37,22 +37,31 @@ returns c =
     let is = ltZ x (pos 0) in
     let f : SFits w16 p = search needs in
     let g : SFits w16 (start .args .sample) = search needs in
-    let k : SFits w32 (c .before .before .before .before .before .before .before .before .before .difference .result) = search needs in
     let h : SFits w16 (c .before .towards .result) = search needs in
-    let i-is : c .before .before .before .before .before .before .before .before .before .before .before .before .lesser .result ≡ i = c .before .before .before .before .before .before .before .before .before .before .before .before .lesser .ensures in
-    let s-is : c .before .before .before .before .before .before .before .before .before .before .before .step .result ≡ s = c .before .before .before .before .before .before .before .before .before .before .before .step .ensures .0 ∙ ap (λ (n : ℕ). getD (start .args .steps .now) n 0) i-is in
-    let z = toZ w32 (ofZ w32 (c .before .before .before .before .before .before .before .before .before .difference .result)) in
-    let x-is : z ≡ x = toZ-ofZ w32 _ k ∙ c .before .before .before .before .before .before .before .before .before .difference .ensures .0 ∙ ap₂ _-ℤ_ (toZ-ofZ w16 _ g) (toZ-ofZ w16 _ f) in
-    let r-is : c .before .before .before .before .before .before .before .before .absolute .result ≡ r = c .before .before .before .before .before .before .before .before .absolute .ensures ∙ ap natAbs x-is in
-    let above : c .before .before .before .before .before .before .before .reached .result ≡ reachedOf s s r = c .before .before .before .before .before .before .before .reached .ensures .0 ∙ ap₂ (λ (a b : ℕ). reachedOf a a b) s-is r-is in
-    let four : c .before .before .before .before .before .before .takes .result ≡ part (takes r s) 1 = c .before .before .before .before .before .before .takes .ensures .0 ∙ ap₂ (λ (a b : ℕ). part (takes b a) 1) s-is r-is in
-    let below : c .before .before .before .before .reached2 .result ≡ reachedOf 0 s r = c .before .before .before .before .reached2 .ensures .0 ∙ ap₂ (reachedOf 0) s-is r-is in
-    let side : c .before .before .before .before .before .sign .result ≡ sign x = c .before .before .before .before .before .sign .ensures .0 ∙ ap sign x-is in
+    let apart = c .before .before .before .before .before .before .before .before .before in
+    let k : SFits w32 (apart .difference .result) = search needs in
+    let taken = c .before .before .before in
+    let lower = taken .before in
+    let signed = lower .before in
+    let whole = signed .before in
+    let upper = whole .before in
+    let size = upper .before in
+    let found = apart .before .before in
+    let held = found .before in
+    let i-is : held .lesser .result ≡ i = held .lesser .ensures in
+    let s-is : found .step .result ≡ s = found .step .ensures .0 ∙ ap (λ (n : ℕ). getD (start .args .steps .now) n 0) i-is in
+    let z = toZ w32 (ofZ w32 (apart .difference .result)) in
+    let x-is : z ≡ x = toZ-ofZ w32 _ k ∙ apart .difference .ensures .0 ∙ ap₂ _-ℤ_ (toZ-ofZ w16 _ g) (toZ-ofZ w16 _ f) in
+    let r-is : size .absolute .result ≡ r = size .absolute .ensures ∙ ap natAbs x-is in
+    let above : upper .reached .result ≡ reachedOf s s r = upper .reached .ensures .0 ∙ ap₂ (λ (a b : ℕ). reachedOf a a b) s-is r-is in
+    let four : whole .takes .result ≡ part (takes r s) 1 = whole .takes .ensures .0 ∙ ap₂ (λ (a b : ℕ). part (takes b a) 1) s-is r-is in
+    let below : lower .reached2 .result ≡ reachedOf 0 s r = lower .reached2 .ensures .0 ∙ ap₂ (reachedOf 0) s-is r-is in
+    let side : signed .sign .result ≡ sign x = signed .sign .ensures .0 ∙ ap sign x-is in
     let magnitude = counted s r in
-    let n = c .before .before .before .before .before .sign .result + c .before .before .before .before .reached2 .result + c .before .before .before .before .before .before .takes .result + c .before .before .before .before .before .before .before .reached .result in
+    let n = signed .sign .result + lower .reached2 .result + whole .takes .result + upper .reached .result in
     let n-is : n ≡ sign x + greedy s r = omega (arith, above, four, below, side, magnitude) in
     let v-is : n ≡ part is 8 + greedy s r = n-is ∙ ap (λ (a : ℕ). a + greedy s r) (sign-is x) in
-    let d-is : c .before .before .before .taken .result + c .before .before .before .before .before .before .before .before .before .before .before .step .result / 8 ≡ m s (greedy s r) + s / 8 = ap₂ (λ (a b : ℕ). a + b / 8) (c .before .before .before .taken .ensures .0 ∙ ap₂ (λ (a b : ℕ). m a (greedy a b)) s-is r-is) s-is in
+    let d-is : taken .taken .result + found .step .result / 8 ≡ m s (greedy s r) + s / 8 = ap₂ (λ (a b : ℕ). a + b / 8) (taken .taken .ensures .0 ∙ ap₂ (λ (a b : ℕ). m a (greedy a b)) s-is r-is) s-is in
     let next =
     toZ-ofZ w16 _ h
     ∙ c .before .towards .ensures
@@ -61,7 +70,7 @@ returns c =
     ∙ predicts s r is (negsuc 32767) (pos 32767) p in
     let index =
     c .raised .ensures
-    ∙ ap₂ (λ (a b : ℕ). lift a b (c .before .before .before .before .before .before .before .reached .result)) i-is four
+    ∙ ap₂ (λ (a b : ℕ). lift a b (upper .reached .result)) i-is four
     ∙ ap (lift i (part (takes r s) 1)) above
     ∙ raises s r is 88 i in
     (n-is, omega arith, ap₂ state next index ∙ ap (stepped sixteen (start .args .steps .now) (wideOf (start .args .self))) (sym v-is))
