@@ -9,9 +9,9 @@ use lib.ListN.{length, take, drop, length-append, length-drop}
 use lib.Seq.{take-at, length-take-le}
 use borrow.Author.Tests.{ne-eqb, eqb-true}
 use borrow.Table.Steps.{cases}
-use Rattle.ms_block.specs.Sizes.{samplesOf}
+use Rattle.ms_block.specs.Sizes.{samplesOf, repackRefusal}
 use Rattle.ms_block.proofs.Sizes.{shape}
-use Rattle.ms_repacked.specs.Repack.{repacked, differ, answered, repackRefusal, repackBlock}
+use Rattle.ms_repacked.specs.Repack.{repacked, differ, answered, repackBlock}
 use Rattle.ms_repacked.proofs.Settled.{repacked-length}
 use Rattle.ms_repacked.proofs.Theorems.{allowed}
 use Rattle.text.specs.Text.{ascii, hex, line, Stands}

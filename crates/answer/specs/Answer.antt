@@ -4,9 +4,9 @@ use mathlib.Core.List.{List, _++_}
 use Prim.Native.Nat.{ℕ, _≤_}
 use lib.Dec.{eqb}
 use lib.ListN.{length}
-use Rattle.ms_block.specs.Sizes.{samplesOf, Taken}
+use Rattle.ms_block.specs.Sizes.{samplesOf, repackRefusal, Taken}
 use Rattle.ms_block.specs.Block.{decodedBlock}
-use Rattle.ms_repacked.specs.Repack.{repacked, differ, repackRefusal}
+use Rattle.ms_repacked.specs.Repack.{repacked, differ}
 use Rattle.loss.specs.Loss.{Reported, lossReport}
 use Rattle.text.specs.Text.{hex, line}
 use Rattle.lines.specs.Lines.{refused, same, changed}

@@ -1,11 +1,11 @@
 // ima4 blocks to samples, one at a time and in runs. A state goes in by value and comes back.
 use adpcm_ima::AdpcmImaState;
 use adpcm_ima::IMA_STEP_TABLE;
-use ima4_layout::Answer;
-use ima4_layout::one;
-use ima4_layout::refused;
-use ima4_layout::some;
-use ima4_layout::started;
+use ima4_call::Answer;
+use ima4_call::one;
+use ima4_call::refused;
+use ima4_call::some;
+use ima4_header::started;
 use num::high_nibble;
 use num::low_nibble;
 ghost use mathlib.Core.Path.{_≡_};

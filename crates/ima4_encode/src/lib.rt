@@ -1,12 +1,12 @@
 // Samples to ima4 blocks, one at a time and in runs. A state goes in by value and comes back.
 use adpcm_ima::AdpcmImaState;
 use adpcm_ima::IMA_STEP_TABLE;
-use ima4_layout::Answer;
-use ima4_layout::header_of;
-use ima4_layout::lowered;
-use ima4_layout::one;
-use ima4_layout::refused;
-use ima4_layout::some;
+use ima4_call::Answer;
+use ima4_call::one;
+use ima4_call::refused;
+use ima4_call::some;
+use ima4_header::header_of;
+use ima4_header::lowered;
 use num::pack;
 ghost use mathlib.Core.Path.{_≡_};
 ghost use Rattle.adpcm_ima.specs.View.{stateOf};

@@ -1,3 +1,4 @@
+pub mod Lengths
 pub mod Midst
 pub mod OwnBytes
 pub mod OwnSamples

@@ -31,6 +31,10 @@ refusedBy c fit = cond (channelled c) (cond fit 0 2) 1
 unfoldable pub refusalOf : ℕ → ℕ → ℕ → ℕ
 refusalOf c n m = refusedBy c (sized c n && eqb m (samplesOf c n))
 
+-- The two lengths of repacking: a block's, and that of the second buffer, which is equal.
+unfoldable pub repackRefusal : ℕ → ℕ → ℕ → ℕ
+repackRefusal c n m = refusedBy c (sized c n && eqb m n)
+
 -- 0: the call is done.
 abbrev pub Taken : ℕ → ℕ → ℕ → Type 0
 Taken c n m = refusalOf c n m ≡ 0

@@ -9,7 +9,7 @@ ghost use Prim.Native.Nat.{_*_, _%_, _≤_, min};
 ghost use lib.Dec.{eqb};
 ghost use Rattle.adpcm_ima.specs.View.{stateOf};
 ghost use Rattle.ms_block.specs.Header.{headed};
-ghost use Rattle.ms_block.specs.Sizes.{most, sized, samplesOf, refusalOf};
+ghost use Rattle.ms_block.specs.Sizes.{most, sized, samplesOf, refusalOf, repackRefusal};
 
 // The most channels that a block has.
 pub const MOST: usize = 2;
@@ -58,6 +58,17 @@ pub fn samples(channels: u8, bytes: usize) -> usize
     ensures { λ r. ⌜ r ≡ samplesOf channels (min bytes 65536) ⌝ }
 {
     monus(2 * lesser(bytes, 65536), 7 * (channels as usize))
+}
+
+// The same of a block and a buffer of equal length for what it is repacked to.
+pub fn repack_refusal(channels: u8, bytes: usize, others: usize) -> u8
+    ensures { λ r. ⌜ r ≡ repackRefusal channels bytes others ⌝ }
+{
+    let number = refusal(channels as usize, bytes, samples(channels, bytes));
+    if number != 0 {
+        return number;
+    }
+    if others == bytes { 0 } else { 2 }
 }
 
 // The state that a decoder starts a channel from.

@@ -1,4 +1,3 @@
-pub mod Lengths
 pub mod Midway
 pub mod Settled
 pub mod Theorems

@@ -14,13 +14,13 @@ use borrow.Table.Steps.{cases}
 use Rattle.num.proofs.Lists.{all-at, all-from, length-from}
 use Rattle.ima_nibble.specs.Step.{State, state, lowered, sixteen}
 use Rattle.ms_block.specs.Header.{headOf}
-use Rattle.ms_block.specs.Sizes.{most, channelled, sized, samplesOf, refusalOf, Taken}
+use Rattle.ms_block.specs.Sizes.{most, channelled, sized, samplesOf, refusalOf, repackRefusal, Taken}
 use Rattle.ms_block.proofs.Sizes.{Shape, shape, passed}
 use Rattle.ms_block.specs.Block.{bytesIn, samplesIn, decodedBlock, stateIn, begunIn}
 use Rattle.ms_block.specs.Call.{decodeBlock}
 use Rattle.ms_block.proofs.Round.{channel-begun, samples-many, samples-within, first-within, in-each}
 use Rattle.ms_block.proofs.Theorems.{own-samples-alone}
-use Rattle.ms_repacked.specs.Repack.{Repacked, startsOf, repacked, differ, answered, repackRefusal, repackBlock}
+use Rattle.ms_repacked.specs.Repack.{Repacked, startsOf, repacked, differ, answered, repackBlock}
 use Rattle.ms_repacked.specs.Written.{Written, indexIn, SameIndices}
 use Rattle.ms_repacked.proofs.Settled.{again, head-held, settled, same-channels, block-in, samples-shape, repacked-length, channel-again}
 use Rattle.ms_repacked.proofs.Unlike.{alike, itself}

@@ -1,12 +1,12 @@
 -- Repacking an MS block: what the call answers, and what its buffer holds at the end. Assumes nothing.
-use mathlib.Core.Bool.{Bool, false, not, cond, _&&_, _||_}
+use mathlib.Core.Bool.{Bool, false, not, cond, _||_}
 use mathlib.Core.List.{List, [], _∷_}
 use Prim.Native.Nat.{ℕ}
 use lib.Dec.{eqb}
 use lib.ListN.{length}
 use Rattle.ima_nibble.specs.Step.{State}
 use Rattle.ms_block.specs.Header.{headOf}
-use Rattle.ms_block.specs.Sizes.{sized, refusedBy}
+use Rattle.ms_block.specs.Sizes.{repackRefusal}
 use Rattle.ms_block.specs.Block.{bytesIn, decodedBlock, encodedBlock, each}
 
 -- Its header's indices, each above 88 taken as 88, which is what a decoder starts from.
@@ -31,10 +31,6 @@ pub record Repacked : Type 0 where
 
 abbrev pub answered : ℕ → Bool → List ℕ → Repacked
 answered number changed bytes = record { refusal = number; changed = changed; buffer = bytes }
-
--- The block is of a length that is allowed, and the second buffer of equal length.
-unfoldable pub repackRefusal : ℕ → ℕ → ℕ → ℕ
-repackRefusal c n m = refusedBy c (sized c n && eqb m n)
 
 -- 0, done. Any other number: only that, the buffer untouched.
 unfoldable pub repackBlock : ℕ → List ℕ → List ℕ → Repacked

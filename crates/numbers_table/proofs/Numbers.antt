@@ -7,11 +7,11 @@ use Rattle.ima_nibble.specs.Series.{decoded, encoded, nibblesOf, packed}
 use Rattle.ima_nibble.specs.Step.{stepAt, m, predicted, indexed, stepped, greedy, nibbleOf}
 use Rattle.ima_nibble.specs.Table.{imaSteps}
 use Rattle.ms_block.specs.Header.{headOf}
-use Rattle.ms_block.specs.Sizes.{refusalOf}
+use Rattle.ms_block.specs.Sizes.{refusalOf, repackRefusal}
 use Rattle.ms_block.specs.Weave.{strand, woven}
 use Rattle.ms_block.specs.Block.{decodedChannel, encodedChannel, decodedBlock, begun, blockFrom}
 use Rattle.ms_block.specs.Call.{decodeBlock}
-use Rattle.ms_repacked.specs.Repack.{repacked, differ, repackRefusal, repackBlock}
+use Rattle.ms_repacked.specs.Repack.{repacked, differ, repackBlock}
 use Rattle.numbers_table.specs.Numbers.{numbers, given, said}
 
 pub numbers-hold : given numbers ≡ said numbers

@@ -3,8 +3,7 @@
 use adpcm_ima::AdpcmImaState;
 use adpcm_ima::IMA_STEP_TABLE;
 use ms_layout::head;
-use ms_layout::refusal;
-use ms_layout::samples;
+use ms_layout::repack_refusal;
 use num::bits_of;
 use num::high_nibble;
 use num::low_nibble;
@@ -16,7 +15,7 @@ ghost use Rattle.adpcm_ima.specs.View.{stateOf};
 ghost use Rattle.ms_block.specs.Header.{headOf};
 ghost use Rattle.ms_block.specs.Block.{bytesIn};
 ghost use Rattle.ms_repacked.specs.Progress.{Alike, Upto};
-ghost use Rattle.ms_repacked.specs.Repack.{repacked, differ, answered, repackRefusal, repackBlock};
+ghost use Rattle.ms_repacked.specs.Repack.{repacked, differ, answered, repackBlock};
 
 // `refusal` is 0 for done. A refusal leaves the buffer alone, and no byte changed.
 pub struct Answer {
@@ -27,7 +26,7 @@ pub struct Answer {
 pub fn repack_adpcm_ima_ms(channels: u8, block: &[u8], out: &mut [u8]) -> Answer
     ensures { λ r. ⌜ answered (r .refusal) (r .changed) (now (out .exit)) ≡ repackBlock channels (now (block .entry)) (now (out .entry)) ⌝ }
 {
-    let number = refused(channels, block.len(), out.len());
+    let number = repack_refusal(channels, block.len(), out.len());
     if number == 0 {
         all(channels as usize, block, out);
         Answer {
@@ -40,16 +39,6 @@ pub fn repack_adpcm_ima_ms(channels: u8, block: &[u8], out: &mut [u8]) -> Answer
             changed: false,
         }
     }
-}
-
-fn refused(channels: u8, bytes: usize, others: usize) -> u8
-    ensures { λ r. ⌜ r ≡ repackRefusal channels bytes others ⌝ }
-{
-    let number = refusal(channels as usize, bytes, samples(channels, bytes));
-    if number != 0 {
-        return number;
-    }
-    if others == bytes { 0 } else { 2 }
 }
 
 fn differs(block: &[u8], out: &[u8]) -> bool

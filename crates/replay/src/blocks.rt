@@ -4,6 +4,7 @@
 use crate::answer::Answer;
 use crate::answer::no_call;
 use adpcm_ima::AdpcmImaState;
+use check::same;
 use ima4_decode::decode_adpcm_ima_ima4;
 use ima4_encode::encode_adpcm_ima_ima4;
 use num::from_halves;
@@ -58,7 +59,7 @@ fn encoded(bytes: &[u8]) -> bool
     if e.refusal != 0 {
         return false;
     }
-    if same_bytes(&block, &bytes[132..166]) {
+    if same(&block, &bytes[132..166]) {
         e.state.same(after)
     } else {
         false
@@ -91,19 +92,6 @@ fn same_samples(samples: &[i16], bytes: &[u8]) -> bool
     let mut i = 0;
     while i < samples.len() {
         if samples[i] != from_halves(bytes[2 * i], bytes[2 * i + 1]) {
-            return false;
-        }
-        i += 1;
-    }
-    true
-}
-
-fn same_bytes(a: &[u8], b: &[u8]) -> bool
-    requires { ⌜ length (now a) ≡ length (now b) ⌝ }
-{
-    let mut i = 0;
-    while i < a.len() {
-        if a[i] != b[i] {
             return false;
         }
         i += 1;

@@ -1,4 +1,5 @@
 // A line of the list: a comment, which begins with '#', or bytes in upper-case hex, one space apart.
+use bytes::scan::find;
 ghost use Prim.Native.Nat.{_<_, _≤_};
 ghost use lib.ListN.{length};
 
@@ -35,14 +36,8 @@ fn next_line(text: &[u8], at: usize) -> usize
     requires { ⌜ at < length (now text) ⌝ }
     ensures { λ r. ⌜ (at < r) × (r ≤ length (now (text .entry))) ⌝ }
 {
-    let mut i = at;
-    while i < text.len() {
-        if text[i] == b'\n' {
-            return i + 1;
-        }
-        i += 1;
-    }
-    i
+    let end = find(text, at, text.len(), b'\n');
+    if end < text.len() { end + 1 } else { end }
 }
 
 // Puts the line's bytes at the front of `bytes` and answers how many there are, or 0.

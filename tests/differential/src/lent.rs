@@ -4,7 +4,6 @@ use crate::nibble::{After, Before};
 
 /// Laid out as the proved struct is, which says `repr(C)` too.
 #[repr(C)]
-#[derive(Clone, Copy, PartialEq)]
 struct State {
     predictor: i16,
     step_index: u8,
@@ -36,28 +35,32 @@ pub fn encode(before: Before<i16>) -> After<u8> {
 }
 
 /// Stands on either side of the state that is lent, and has to stay as it is.
-const NEIGHBOUR: State = State {
-    predictor: 0x5a5a,
-    step_index: 0xa5,
-};
+const NEIGHBOUR: u32 = 0x5aa5_a55a;
 
-/// Lends the middle one of three states. That Rust lays the struct out as the proved one is laid out is
-/// not proved, so what stands beside it is looked at too.
+/// Lends the middle one of three words as a state. That Rust lays the struct out as the proved one is laid out
+/// is not proved, so what stands beside it is looked at too.
 #[inline(always)]
 fn lending<T, U>(
     (input, predictor, step_index): Before<T>,
     call: impl Fn(T, *mut State) -> U,
 ) -> After<U> {
-    let state = State {
-        predictor,
-        step_index,
+    const { assert!(size_of::<State>() == 4 && align_of::<State>() <= 4) };
+    let mut words = [NEIGHBOUR; 3];
+    let state: *mut State = words.as_mut_ptr().wrapping_add(1).cast();
+    // SAFETY: a word has room for a state.
+    unsafe {
+        state.write(State {
+            predictor,
+            step_index,
+        })
     };
-    let mut states = [NEIGHBOUR, state, NEIGHBOUR];
-    let answer = call(input, states.as_mut_ptr().wrapping_add(1));
-    let [below, after, above] = states;
+    let answer = call(input, state);
+    // SAFETY: as above, and all bytes of the state are set. (Number by number, as they are written: a processor waits
+    // for two stores before it reads both at once.)
+    let (predictor, step_index) = unsafe { ((*state).predictor, (*state).step_index) };
     assert!(
-        below == NEIGHBOUR && above == NEIGHBOUR,
+        words[0] == NEIGHBOUR && words[2] == NEIGHBOUR,
         "a neighbour was written"
     );
-    (answer, after.predictor, after.step_index)
+    (answer, predictor, step_index)
 }

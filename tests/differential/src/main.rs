@@ -51,7 +51,9 @@ fn main() -> ExitCode {
         _ => Err(()),
     };
     let Ok(chunks) = chunks else {
-        eprintln!("usage: differential [sampled | exhaustive [CHUNKS]] (CHUNKS: do no more of them)");
+        eprintln!(
+            "usage: differential [sampled | exhaustive [CHUNKS]] (CHUNKS: do no more of them)"
+        );
         return ExitCode::from(2);
     };
 

@@ -26,6 +26,29 @@ pub fn compare<I: Copy + Debug, O: PartialEq + Debug>(
     report
 }
 
+/// The same of a call that comes in several shapes, each in a report of its own. The oracle is asked once for all.
+pub fn compare_each<const N: usize, I: Copy + Debug, O: PartialEq + Debug>(
+    reports: [&Report; N],
+    inputs: impl Iterator<Item = I>,
+    ours: impl Fn(I) -> [O; N],
+    oracle: impl Fn(I) -> O,
+) {
+    let (mut compared, mut differ) = (0, [0; N]);
+    for input in inputs {
+        compared += 1;
+        let oracle = oracle(input);
+        for (shape, ours) in ours(input).into_iter().enumerate() {
+            if ours != oracle {
+                differ[shape] += 1;
+                reports[shape].print(input, ours, &oracle);
+            }
+        }
+    }
+    for (report, differ) in reports.into_iter().zip(differ) {
+        report.count(compared, differ);
+    }
+}
+
 impl Report {
     /// With `progress` it says which call is next.
     pub fn start(progress: bool, name: &'static str) -> Report {
@@ -52,16 +75,7 @@ impl Report {
         ours: impl Fn(I) -> O,
         oracle: impl Fn(I) -> O,
     ) {
-        let (mut compared, mut differ) = (0, 0);
-        for input in inputs {
-            compared += 1;
-            let (ours, oracle) = (ours(input), oracle(input));
-            if ours != oracle {
-                differ += 1;
-                self.print(input, ours, oracle);
-            }
-        }
-        self.count(compared, differ);
+        compare_each([self], inputs, |input| [ours(input)], oracle);
     }
 
     pub fn count(&self, compared: u64, differ: u64) {

@@ -1,4 +1,4 @@
--- `sprettuhol::states::predictors_of` meets its contract: a turn writes one channel's predictor. Assumes nothing.
+-- `channels::predictors_of` meets its contract: a turn writes one channel's predictor. Assumes nothing.
 use mathlib.Core.Path.{_≡_, refl, sym, ap, _∙_, subst}
 use mathlib.Core.List.{List, map}
 use Prim.Native.Nat.{ℕ, _-_, _≤_}

@@ -1,4 +1,4 @@
--- `sprettuhol::states::states_of` meets its contract: a turn makes one channel's state of its numbers. Assumes nothing.
+-- `channels::states_of` meets its contract: a turn makes one channel's state of its numbers. Assumes nothing.
 use mathlib.Core.Path.{_≡_, refl, ap, _∙_, subst}
 use mathlib.Core.List.{List, map}
 use Prim.Native.Nat.{ℕ, _-_, _≤_}

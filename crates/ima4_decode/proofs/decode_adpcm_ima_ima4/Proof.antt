@@ -1,4 +1,4 @@
--- `ima4::decode::decode_adpcm_ima_ima4` meets its contract: a turn decodes a byte, so what is written and then what the rest decodes to is the block's. Assumes nothing.
+-- `ima4_decode::decode_adpcm_ima_ima4` meets its contract: a turn decodes a byte, so what is written and then what the rest decodes to is the block's. Assumes nothing.
 use mathlib.Core.Path.{_≡_, refl, sym, ap, _∙_, subst}
 use mathlib.Core.Bool.{true}
 use Prim.Native.Nat.{ℕ, _+_, _-_, _*_, _≤_, _<_}

@@ -1,4 +1,4 @@
--- `ima4::encode::encode_adpcm_ima_ima4` meets its contract: a turn encodes two samples, so what is written and then what the rest is encoded to is the block's. Assumes nothing.
+-- `ima4_encode::encode_adpcm_ima_ima4` meets its contract: a turn encodes two samples, so what is written and then what the rest is encoded to is the block's. Assumes nothing.
 use mathlib.Core.Path.{_≡_, refl, sym, ap, ap₂, _∙_, subst}
 use mathlib.Core.Bool.{true}
 use mathlib.Core.List.{_∷_, []}

@@ -1,4 +1,4 @@
--- `ima4::encode::encode_adpcm_ima_ima4_run` meets its contract: a turn is the call on the next block, so what is written and then the run of the rest is the run. Assumes nothing.
+-- `ima4_encode::encode_adpcm_ima_ima4_run` meets its contract: a turn is the call on the next block, so what is written and then the run of the rest is the run. Assumes nothing.
 use mathlib.Core.Path.{_≡_, refl, sym, ap, _∙_}
 use mathlib.Core.Bool.{true}
 use Prim.Native.Nat.{_-_, _*_, _/_, _≤_}

@@ -6,8 +6,9 @@ use Prim.Native.Nat.{ℕ}
 use lib.ListN.{length}
 use borrow.Author.Needs.{needs}
 use borrow.Author.Tests.{ne-eqb}
+use Rattle.ms_block.specs.Sizes.{repackRefusal}
 use Rattle.ms_repacked.specs.Progress.{Alike}
-use Rattle.ms_repacked.specs.Repack.{differ, answered, repackRefusal, repackBlock}
+use Rattle.ms_repacked.specs.Repack.{differ, answered, repackBlock}
 use Rattle.ms_repacked.proofs.Theorems.{allowed}
 use Rattle.repacking.proofs.repack_adpcm_ima_ms.Statement.{statement}
 use Rattle.repacking.proofs.repack_adpcm_ima_ms.Tie as tie
@@ -17,7 +18,7 @@ taken : (c : tie.Then1) → let a = c .before .before .before .before .args in A
 taken c =
     let s = c .before .before .before .before in
     let a = s .args in
-    allowed (a .channels) (length (a .block .now)) (length (a .out .now)) (sym (c .before .refused .ensures) ∙ c .if1 .taken)
+    allowed (a .channels) (length (a .block .now)) (length (a .out .now)) (sym (c .before .repack-refusal .ensures) ∙ c .if1 .taken)
 
 all-requires : tie.Need-all-requires
 all-requires c κs = taken (c .before)
@@ -32,13 +33,13 @@ returns c =
     let s = c .before .before .before .before .before .before in
     let a = s .before .before .before .before .args in
     let is = c .before .before .before .before .all .ensures in
-    rw (sym (s .before .refused .ensures) ∙ s .if1 .taken) (ap₂ (λ (b : Bool) (bs : List ℕ). answered 0 b bs) (c .differs .ensures ∙ ap (differ (a .block .now)) is) is)
+    rw (sym (s .before .repack-refusal .ensures) ∙ s .if1 .taken) (ap₂ (λ (b : Bool) (bs : List ℕ). answered 0 b bs) (c .differs .ensures ∙ ap (differ (a .block .now)) is) is)
 
 returns-2 : tie.Need-returns-2
 unfolding repackBlock
 returns-2 c =
     let a = c .before .before .before .before .args in
-    let is = c .before .refused .ensures in
+    let is = c .before .repack-refusal .ensures in
     let other : repackRefusal (a .channels) (length (a .block .now)) (length (a .out .now)) ≡ 0 → ⊥ = λ e. c .if1 .left (is ∙ e) in
     rw (ne-eqb (repackRefusal (a .channels) (length (a .block .now)) (length (a .out .now))) 0 other) (ap (λ (k : ℕ). answered k false (a .out .now)) is)
 

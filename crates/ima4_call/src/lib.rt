@@ -1,0 +1,8 @@
+// The lengths of ima4 blocks and runs that a call takes, and what it comes back with.
+mod answer;
+mod sizes;
+
+pub use answer::Answer;
+pub use answer::refused;
+pub use sizes::one;
+pub use sizes::some;
