@@ -55,8 +55,8 @@ fn lending<T, U>(
         })
     };
     let answer = call(input, state);
-    // SAFETY: as above, and all bytes of the state are set. (Number by number, as they are written: a processor waits
-    // for two stores before it reads both at once.)
+    // SAFETY: as above, and both numbers are set. (They are read one by one, as they are written: a load of both at once
+    // would wait for the two stores.)
     let (predictor, step_index) = unsafe { ((*state).predictor, (*state).step_index) };
     assert!(
         words[0] == NEIGHBOUR && words[2] == NEIGHBOUR,
