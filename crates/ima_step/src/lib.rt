@@ -1,18 +1,17 @@
 // One step of IMA ADPCM, as a block's loop calls it: the table lent, and a state that is wide inside. `moved` decodes a nibble, `coded` encodes a sample.
-mod greedy;
 mod nibble;
 
-use greedy::raised;
-use greedy::taken;
-use greedy::towards;
+use ima_arithmetic::difference;
+use ima_arithmetic::sign;
+use ima_arithmetic::taken;
+use ima_arithmetic::takes;
+use ima_arithmetic::towards;
 use nibble::absolute;
-use nibble::difference;
 use nibble::held;
 use nibble::predicted;
+use nibble::raised;
 use nibble::reached;
-use nibble::sign;
 use nibble::step;
-use nibble::takes;
 use num::lesser;
 ghost use mathlib.Core.Path.{_≡_};
 ghost use Prim.Native.Nat.{_<_};

@@ -1,12 +1,13 @@
-// The arithmetic of one nibble, each function a line or two of the definition.
+// The arithmetic of one nibble from a step of the table and an index that is held.
+use ima_arithmetic::part;
+use ima_arithmetic::takes;
 use num::clamp;
 use num::lesser;
 use num::monus;
 ghost use mathlib.Core.Path.{_≡_};
 ghost use mathlib.Core.Bool.{cond};
-ghost use Prim.Native.Nat.{_+_, _/_, _%_, _≤_, _<_};
-ghost use lib.Dec.{eqb};
-ghost use lib.IntN.{pos, negsuc, negℤ, natAbs, _-ℤ_};
+ghost use Prim.Native.Nat.{_+_, _-_, _*_, _/_, _≤_, _<_, min};
+ghost use lib.IntN.{pos, negsuc, negℤ, natAbs};
 ghost use lib.ListN.{getD};
 ghost use lib.Signed.{mag};
 ghost use Rattle.ima_nibble.specs.Step as Step;
@@ -51,12 +52,6 @@ fn size(s: u32, nibble: u32) -> u32
     m + s / 8
 }
 
-fn part(bit: u32, x: u32) -> u32
-    ensures { λ r. ⌜ (r ≡ Step.part (eqb (bit % 2) 1) x) × (r ≤ x) ⌝ }
-{
-    if bit % 2 == 1 { x } else { 0 }
-}
-
 // The move of a nibble with bit 4 is twice its two lower bits and 2, and that of any other -1. Both are one less than what is added.
 pub(crate) fn held(index: usize, nibble: u32) -> usize
     requires { ⌜ index ≤ 88 ⌝ }
@@ -66,16 +61,12 @@ pub(crate) fn held(index: usize, nibble: u32) -> usize
     lesser(monus(raised, 1), 88)
 }
 
-pub(crate) fn difference(predictor: i16, sample: i16) -> i32
-    ensures { λ r. ⌜ (r ≡ sample -ℤ predictor) × (mag r < 131072) ⌝ }
+// A magnitude of 4 and more is 4 and what is reached above the step. What is added is one more than the move, as in `held`.
+pub(crate) fn raised(index: usize, four: u32, above: u32) -> usize
+    requires { ⌜ (index ≤ 88) × (four ≤ 1) × (above ≤ 3) ⌝ }
+    ensures { λ r. ⌜ r ≡ min (index + (3 * four + 2 * above) - 1) 88 ⌝ }
 {
-    sample as i32 - predictor as i32
-}
-
-pub(crate) fn sign(x: i32) -> u32
-    ensures { λ r. ⌜ (r ≡ Step.sign x) × (r ≤ 8) ⌝ }
-{
-    if x < 0 { 8 } else { 0 }
+    lesser(monus(index + (3 * four + 2 * above) as usize, 1), 88)
 }
 
 pub(crate) fn absolute(x: i32) -> u32
@@ -92,10 +83,4 @@ pub(crate) fn reached(a: u32, s: u32, r: u32) -> u32
     ensures { λ n. ⌜ (n ≡ Step.part (Step.takes r (a + s / 4)) 1 + Step.part (Step.takes r (a + s / 2)) 1 + Step.part (Step.takes r (a + s / 2 + s / 4)) 1) × (n ≤ 3) ⌝ }
 {
     takes(r, a + s / 4) + takes(r, a + s / 2) + takes(r, a + s / 2 + s / 4)
-}
-
-pub(crate) fn takes(r: u32, x: u32) -> u32
-    ensures { λ n. ⌜ (n ≡ Step.part (Step.takes r x) 1) × (n ≤ 1) ⌝ }
-{
-    if r < x { 0 } else { 1 }
 }

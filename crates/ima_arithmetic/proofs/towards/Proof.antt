@@ -1,4 +1,4 @@
--- `ima_step::greedy::towards` meets its contract: held by the room on its side, the sum is the clamped one, and fits 16 bits. Assumes nothing.
+-- `ima_arithmetic::towards` meets its contract: held by the room on its side, the sum is the clamped one, and fits 16 bits. Assumes nothing.
 use mathlib.Core.Path.{_≡_, refl, sym, ap, ap₂, _∙_}
 use mathlib.Core.Bool.{Bool, true, false, cond}
 use Prim.Native.Nat.{ℕ, _≤_, _<_, min}
@@ -14,8 +14,8 @@ use Rattle.num.proofs.Shift.{signed}
 use Rattle.num.proofs.Signed.{widens, widened, narrows, narrowed}
 use Rattle.num.proofs.Within.{mag-clamp}
 use Rattle.ima_nibble.proofs.Room.{under, over, step-is}
-use Rattle.ima_step.proofs.greedy.towards.Statement.{statement}
-use Rattle.ima_step.proofs.greedy.towards.Tie as tie
+use Rattle.ima_arithmetic.proofs.towards.Statement.{statement}
+use Rattle.ima_arithmetic.proofs.towards.Tie as tie
 
 module _ (p : ℤ) (f : SFits w16 p) (n : ℕ) (h : n < 65536) where
   minus : toZ w32 (ofZ w32 (toZ w16 (ofZ w16 p))) -ℤ toZ w32 n ≡ p -ℤ pos n

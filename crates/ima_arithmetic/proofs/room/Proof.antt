@@ -1,4 +1,4 @@
--- `ima_step::greedy::room` meets its contract: in 32 bits both distances are exact. Assumes nothing.
+-- `ima_arithmetic::room` meets its contract: in 32 bits both distances are exact. Assumes nothing.
 use mathlib.Core.Path.{_≡_, refl, ap, _∙_}
 use mathlib.Core.Bool.{Bool, true, false, cond}
 use Prim.Native.Nat.{ℕ, _<_}
@@ -8,8 +8,8 @@ use mir.Syntax.{w16, w32}
 use mir.Val.{SFits, toZ, ofZ}
 use Rattle.num.proofs.Signed.{widens, widened, fits-pos, casts, cast-is}
 use Rattle.ima_nibble.proofs.Room.{under, over, under-is, over-is, under-lt, over-lt}
-use Rattle.ima_step.proofs.greedy.room.Statement.{statement}
-use Rattle.ima_step.proofs.greedy.room.Tie as tie
+use Rattle.ima_arithmetic.proofs.room.Statement.{statement}
+use Rattle.ima_arithmetic.proofs.room.Tie as tie
 
 module _ (p : ℤ) (f : SFits w16 p) where
   down : toZ w32 (ofZ w32 (toZ w16 (ofZ w16 p))) +ℤ toZ w32 32768 ≡ pos (under p)

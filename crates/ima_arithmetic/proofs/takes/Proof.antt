@@ -1,11 +1,11 @@
--- `ima_step::nibble::takes` meets its contract: a remainder below the part takes nothing, and any other takes it. Assumes nothing.
+-- `ima_arithmetic::takes` meets its contract: a remainder below the part takes nothing, and any other takes it. Assumes nothing.
 use mathlib.Core.Path.{_≡_, refl}
 use Prim.Native.Nat.{ℕ, _≤_, _<_}
 use native.Mathlib.Omega.{arith}
 use borrow.Author.Tests.{le-leb, lt-leb}
 use Rattle.ima_nibble.specs.Step.{part, takes}
-use Rattle.ima_step.proofs.nibble.takes.Statement.{statement}
-use Rattle.ima_step.proofs.nibble.takes.Tie as tie
+use Rattle.ima_arithmetic.proofs.takes.Statement.{statement}
+use Rattle.ima_arithmetic.proofs.takes.Tie as tie
 
 below : (r x : ℕ) → r < x → 0 ≡ part (takes r x) 1
 below r x h = rw (lt-leb x r h) refl

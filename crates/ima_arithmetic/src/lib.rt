@@ -1,24 +1,40 @@
-// What a sample's nibble and the state behind it share. Each part is taken once, and what was taken moves the predictor.
-use num::lesser;
-use num::monus;
+// The arithmetic of one nibble, as far as it takes all inputs: each function is a line or two of the definition.
 ghost use mathlib.Core.Path.{_≡_};
 ghost use mathlib.Core.Bool.{cond};
-ghost use Prim.Native.Nat.{_+_, _-_, _*_, _≤_, _<_, min};
+ghost use Prim.Native.Nat.{_*_, _%_, _≤_, _<_, min};
+ghost use lib.Dec.{eqb};
 ghost use lib.IntN.{pos, negsuc, natAbs, _+ℤ_, _-ℤ_};
+ghost use lib.Signed.{mag};
 ghost use Rattle.num.specs.Clamp as Clamp;
 ghost use Rattle.ima_nibble.specs.Step as Step;
 ghost use Rattle.ima_nibble.specs.Step.{m, greedy};
 
-// A magnitude of 4 and more is 4 and what is reached above the step. What is added is one more than the move, as in `held`.
-pub(crate) fn raised(index: usize, four: u32, above: u32) -> usize
-    requires { ⌜ (index ≤ 88) × (four ≤ 1) × (above ≤ 3) ⌝ }
-    ensures { λ r. ⌜ r ≡ min (index + (3 * four + 2 * above) - 1) 88 ⌝ }
+pub fn part(bit: u32, x: u32) -> u32
+    ensures { λ r. ⌜ (r ≡ Step.part (eqb (bit % 2) 1) x) × (r ≤ x) ⌝ }
 {
-    lesser(monus(index + (3 * four + 2 * above) as usize, 1), 88)
+    if bit % 2 == 1 { x } else { 0 }
+}
+
+pub fn difference(predictor: i16, sample: i16) -> i32
+    ensures { λ r. ⌜ (r ≡ sample -ℤ predictor) × (mag r < 131072) ⌝ }
+{
+    sample as i32 - predictor as i32
+}
+
+pub fn sign(x: i32) -> u32
+    ensures { λ r. ⌜ (r ≡ Step.sign x) × (r ≤ 8) ⌝ }
+{
+    if x < 0 { 8 } else { 0 }
+}
+
+pub fn takes(r: u32, x: u32) -> u32
+    ensures { λ n. ⌜ (n ≡ Step.part (Step.takes r x) 1) × (n ≤ 1) ⌝ }
+{
+    if r < x { 0 } else { 1 }
 }
 
 // What the greedy taking takes is the difference without what it leaves.
-pub(crate) fn taken(s: u32, r: u32) -> u32
+pub fn taken(s: u32, r: u32) -> u32
     ensures { λ n. ⌜ (n ≡ m s (greedy s r)) × (n ≤ 2 * s) ⌝ }
 {
     r - left(left(left(r, s), s / 2), s / 4)
@@ -31,7 +47,7 @@ fn left(r: u32, x: u32) -> u32
 }
 
 // The predictor goes no further than the room on that side, so its sum needs no clamp.
-pub(crate) fn towards(predictor: i16, negative: bool, d: u32) -> i16
+pub fn towards(predictor: i16, negative: bool, d: u32) -> i16
     ensures { λ r. ⌜ r ≡ Clamp.clamp (negsuc 32767) (pos 32767) (cond negative (predictor -ℤ pos d) (predictor +ℤ pos d)) ⌝ }
 {
     let by = fewer(d, room(predictor, negative)) as i32;

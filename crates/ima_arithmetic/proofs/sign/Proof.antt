@@ -1,10 +1,10 @@
--- `ima_step::nibble::sign` meets its contract: a number below 0 is one of the second kind. Assumes nothing.
+-- `ima_arithmetic::sign` meets its contract: a number below 0 is one of the second kind. Assumes nothing.
 use mathlib.Core.Path.{sym, ap}
 use native.Mathlib.Omega.{arith}
 use Rattle.num.proofs.Signed.{negative, positive, signed}
 use Rattle.ima_nibble.specs.Step.{sign}
-use Rattle.ima_step.proofs.nibble.sign.Statement.{statement}
-use Rattle.ima_step.proofs.nibble.sign.Tie as tie
+use Rattle.ima_arithmetic.proofs.sign.Statement.{statement}
+use Rattle.ima_arithmetic.proofs.sign.Tie as tie
 
 returns : tie.Need-returns
 returns c = (sym (ap sign (negative (c .before .args .x) (signed (c .before .fits .x) (c .if1 .taken)))), omega arith)

@@ -1,12 +1,12 @@
--- `ima_step::greedy::taken` meets its contract by the law `took`. Assumes nothing.
+-- `ima_arithmetic::taken` meets its contract by the law `took`. Assumes nothing.
 use mathlib.Core.Path.{sym, ap, _∙_}
 use Prim.Native.Nat.{ℕ, _-_, _/_}
 use borrow.Author.Needs.{needs}
 use Rattle.ima_nibble.specs.Step.{left, greedy}
 use Rattle.ima_nibble.proofs.Fused.{took}
 use Rattle.ima_nibble.proofs.Parts.{m-le}
-use Rattle.ima_step.proofs.greedy.taken.Statement.{statement}
-use Rattle.ima_step.proofs.greedy.taken.Tie as tie
+use Rattle.ima_arithmetic.proofs.taken.Statement.{statement}
+use Rattle.ima_arithmetic.proofs.taken.Tie as tie
 
 returns : tie.Need-returns
 returns c =

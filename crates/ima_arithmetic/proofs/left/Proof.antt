@@ -1,11 +1,11 @@
--- `ima_step::greedy::left` meets its contract: a remainder below the part keeps all. Assumes nothing.
+-- `ima_arithmetic::left` meets its contract: a remainder below the part keeps all. Assumes nothing.
 use mathlib.Core.Path.{_≡_}
 use Prim.Native.Nat.{ℕ, _-_, _≤_, _<_}
 use native.Mathlib.Omega.{arith}
 use borrow.Author.Tests.{le-leb, lt-leb}
 use Rattle.ima_nibble.specs.Step.{left}
-use Rattle.ima_step.proofs.greedy.left.Statement.{statement}
-use Rattle.ima_step.proofs.greedy.left.Tie as tie
+use Rattle.ima_arithmetic.proofs.left.Statement.{statement}
+use Rattle.ima_arithmetic.proofs.left.Tie as tie
 
 keeps : (r x : ℕ) → r < x → r ≡ left r x
 keeps r x h = rw (lt-leb x r h) (omega arith)

@@ -1,8 +1,8 @@
--- `ima_step::nibble::part` meets its contract: its test is the definition's. Assumes nothing.
+-- `ima_arithmetic::part` meets its contract: its test is the definition's. Assumes nothing.
 use native.Mathlib.Omega.{arith}
 use borrow.Author.Tests.{eq-eqb, ne-eqb}
-use Rattle.ima_step.proofs.nibble.part.Statement.{statement}
-use Rattle.ima_step.proofs.nibble.part.Tie as tie
+use Rattle.ima_arithmetic.proofs.part.Statement.{statement}
+use Rattle.ima_arithmetic.proofs.part.Tie as tie
 
 returns : tie.Need-returns
 returns c = (rw (eq-eqb _ _ (c .if1 .taken)), omega arith)

@@ -1,10 +1,10 @@
--- `ima_step::nibble::difference` meets its contract: in 32 bits the difference of two numbers of 16 is exact. Assumes nothing.
+-- `ima_arithmetic::difference` meets its contract: in 32 bits the difference of two numbers of 16 is exact. Assumes nothing.
 use mathlib.Core.Path.{_∙_}
 use mir.Syntax.{w32}
 use mir.ValLaws.{toZ-ofZ}
 use Rattle.num.proofs.Signed.{widens, difference-is, difference-small, difference-fits}
-use Rattle.ima_step.proofs.nibble.difference.Statement.{statement}
-use Rattle.ima_step.proofs.nibble.difference.Tie as tie
+use Rattle.ima_arithmetic.proofs.difference.Statement.{statement}
+use Rattle.ima_arithmetic.proofs.difference.Tie as tie
 
 cast-result : tie.Need-cast-result
 cast-result c = widens _ (c .fits .sample)
