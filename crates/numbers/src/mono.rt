@@ -7,16 +7,24 @@ use repacking::repack_adpcm_ima_ms;
 
 pub(crate) fn show() {
     let block = [0u8, 0, 0, 0, 0x17];
-    let mut samples = [1i16; 3];
-    decode_adpcm_ima_ms(1, &block, &mut samples);
     bytes(b"mono", &block);
+    decoded(&block);
+    repacked(&block);
+}
+
+fn decoded(block: &[u8]) {
+    let mut samples = [1i16; 3];
+    decode_adpcm_ima_ms(1, block, &mut samples);
     signed(b" decodes to ", samples[0]);
     signed(b", ", samples[1]);
     signed(b", ", samples[2]);
+}
+
+fn repacked(block: &[u8]) {
     let mut out = [1u8; 5];
-    let repacked = repack_adpcm_ima_ms(1, &block, &mut out);
+    let answer = repack_adpcm_ima_ms(1, block, &mut out);
     bytes(b" and repacks to", &out);
-    if repacked.changed {
+    if answer.changed {
         text(b", changed\n");
     } else {
         text(b", the same\n");

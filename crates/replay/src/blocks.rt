@@ -3,13 +3,13 @@
 // of both calls are 169 bytes long.
 use crate::answer::Answer;
 use crate::answer::no_call;
-use adpcm_ima::AdpcmImaState;
+use crate::state::state_at;
 use check::same;
 use ima4_decode::decode_adpcm_ima_ima4;
 use ima4_encode::encode_adpcm_ima_ima4;
 use num::from_halves;
 ghost use mathlib.Core.Path.{_≡_};
-ghost use Prim.Native.Nat.{_+_, _*_, _<_};
+ghost use Prim.Native.Nat.{_*_, _<_};
 ghost use lib.ListN.{length};
 
 pub(crate) fn answered(bytes: &[u8]) -> Answer
@@ -63,15 +63,6 @@ fn encoded(bytes: &[u8]) -> bool
         e.state.same(after)
     } else {
         false
-    }
-}
-
-fn state_at(bytes: &[u8], at: usize) -> AdpcmImaState
-    requires { ⌜ at + 2 < length (now bytes) ⌝ }
-{
-    AdpcmImaState {
-        predictor: from_halves(bytes[at], bytes[at + 1]),
-        step_index: bytes[at + 2],
     }
 }
 

@@ -6,6 +6,7 @@ mod blocks;
 mod laws;
 mod list;
 mod nibbles;
+mod state;
 
 use answer::Answer;
 use answer::no_call;
@@ -23,10 +24,10 @@ fn main() {
         os::fail(path);
         return;
     }
-    let mut text = [0u8; 262144];
+    let mut text = [0u8; 131072];
     let n = io::read_full(file, &mut text);
     libc::close(file);
-    if n == 262144 {
+    if n == 131072 {
         io::write_all(STDOUT_FILENO, b"the list is too long\n");
     } else {
         replay(&text[..n]);
@@ -87,22 +88,24 @@ fn more(n: u64) -> u64 {
 }
 
 fn report(tally: Tally) {
-    say(b"decode_ulaw", tally.same[1], tally.differ[1]);
-    say(b"encode_ulaw", tally.same[2], tally.differ[2]);
-    say(b"decode_alaw", tally.same[3], tally.differ[3]);
-    say(b"encode_alaw", tally.same[4], tally.differ[4]);
-    say(b"decode_adpcm_ima", tally.same[5], tally.differ[5]);
-    say(b"encode_adpcm_ima", tally.same[6], tally.differ[6]);
-    say(b"decode_adpcm_ima_ima4", tally.same[7], tally.differ[7]);
-    say(b"encode_adpcm_ima_ima4", tally.same[8], tally.differ[8]);
-    say(b"no call", tally.same[0], tally.differ[0]);
+    say(b"decode_ulaw", tally, 1);
+    say(b"encode_ulaw", tally, 2);
+    say(b"decode_alaw", tally, 3);
+    say(b"encode_alaw", tally, 4);
+    say(b"decode_adpcm_ima", tally, 5);
+    say(b"encode_adpcm_ima", tally, 6);
+    say(b"decode_adpcm_ima_ima4", tally, 7);
+    say(b"encode_adpcm_ima_ima4", tally, 8);
+    say(b"no call", tally, 0);
 }
 
-fn say(call: &[u8], same: u64, differ: u64) {
-    io::write_all(STDOUT_FILENO, call);
+fn say(name: &[u8], tally: Tally, call: usize)
+    requires { ⌜ call < 9 ⌝ }
+{
+    io::write_all(STDOUT_FILENO, name);
     io::write_all(STDOUT_FILENO, b": ");
-    io::print_decimal(STDOUT_FILENO, same);
+    io::print_decimal(STDOUT_FILENO, tally.same[call]);
     io::write_all(STDOUT_FILENO, b" same, ");
-    io::print_decimal(STDOUT_FILENO, differ);
+    io::print_decimal(STDOUT_FILENO, tally.differ[call]);
     io::write_all(STDOUT_FILENO, b" differ\n");
 }

@@ -1,7 +1,7 @@
 // The calls on one nibble.
 use crate::answer::Answer;
 use crate::answer::no_call;
-use adpcm_ima::AdpcmImaState;
+use crate::state::state_at;
 use num::from_halves;
 ghost use mathlib.Core.Path.{_≡_};
 ghost use Prim.Native.Nat.{_<_};
@@ -29,15 +29,9 @@ fn decoded(bytes: &[u8]) -> bool
     requires { ⌜ length (now bytes) ≡ 10 ⌝ }
 {
     let nibble = bytes[1];
-    let before = AdpcmImaState {
-        predictor: from_halves(bytes[2], bytes[3]),
-        step_index: bytes[4],
-    };
+    let before = state_at(bytes, 2);
     let sample = from_halves(bytes[5], bytes[6]);
-    let after = AdpcmImaState {
-        predictor: from_halves(bytes[7], bytes[8]),
-        step_index: bytes[9],
-    };
+    let after = state_at(bytes, 7);
     let d = before.decode(nibble);
     if d.sample == sample {
         d.state.same(after)
@@ -50,15 +44,9 @@ fn encoded(bytes: &[u8]) -> bool
     requires { ⌜ length (now bytes) ≡ 10 ⌝ }
 {
     let sample = from_halves(bytes[1], bytes[2]);
-    let before = AdpcmImaState {
-        predictor: from_halves(bytes[3], bytes[4]),
-        step_index: bytes[5],
-    };
+    let before = state_at(bytes, 3);
     let nibble = bytes[6];
-    let after = AdpcmImaState {
-        predictor: from_halves(bytes[7], bytes[8]),
-        step_index: bytes[9],
-    };
+    let after = state_at(bytes, 7);
     let e = before.encode(sample);
     if e.nibble == nibble {
         e.state.same(after)
