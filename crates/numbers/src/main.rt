@@ -1,5 +1,5 @@
 // The numbers that the scope says to hold, in its order, each as the proved calls give it; the file stdout has them as they must be. Those
-// that are marked P are proved besides, as one table (specs/Numbers.antt, proofs/Numbers.antt).
+// that are marked P are proved besides, as one table: the crate numbers_table.
 mod laws;
 mod lengths;
 mod mono;
