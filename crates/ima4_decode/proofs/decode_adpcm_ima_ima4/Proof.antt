@@ -38,53 +38,61 @@ returns c =
     rw (is .0, is .1, sym (c .before .before .one .ensures) ∙ failed (c .before .before .one .result) (c .before .if1 .taken)) refl
 
 -- behind the test of the lengths
-taken : (c : tie.Else1 Inv-loop μ-loop) → one (length (c .before .before .before .args .buf .now)) (length (c .before .before .before .args .out-samples .now)) ≡ true
+taken : (c : tie.Else1 Inv-loop μ-loop) → let a = c .before .before .before .args in one (length (a .buf .now)) (length (a .out-samples .now)) ≡ true
 taken c = sym (c .before .one .ensures) ∙ passed (c .before .one .result) (c .if1 .left)
 
-lengths : (c : tie.Else1 Inv-loop μ-loop) → (length (c .before .before .before .args .buf .now) ≡ 34) × (length (c .before .before .before .args .out-samples .now) ≡ 64)
+lengths : (c : tie.Else1 Inv-loop μ-loop) → let a = c .before .before .before .args in (length (a .buf .now) ≡ 34) × (length (a .out-samples .now) ≡ 64)
 lengths c = let a = c .before .before .before .args in sized-are 1 (length (a .buf .now)) (length (a .out-samples .now)) (taken c)
 
+-- the test of the lengths, from before the loop
+abbrev tested : tie.After-widened Inv-loop μ-loop → tie.Else1 Inv-loop μ-loop
+tested c = c .before .before .before .before
+
 loop-holds : tie.Need-loop-holds Inv-loop μ-loop
-loop-holds c =
-    let (b, o) = lengths (c .before .before .before .before) in
-    (refl, b, o, omega arith, c .widened .ensures .1)
+loop-holds c = let (b, o) = lengths (tested c) in (refl, b, o, omega arith, c .widened .ensures .1)
 
 second-place : tie.Need-slice-set-from-second Inv-loop μ-loop
 second-place c =
-    let at = c .before .before .before .before .before .before .before .before .before .before in
-    let x = toZ w16 (ofZ w16 (c .before .before .before .before .before .moved .result .predictor)) in
-    let h = c .before .before .before .before .before .before .before .before .before .loop-test .taken in
-    omega (arith, length-set (at .loop .out-samples) (2 * at .loop .k) x, at .loop .inv .2, h)
+    let at-high = c .before .before .before in
+    let at-low = at-high .before .before .before in
+    let test = at-low .before .before .before in
+    let at = test .before in
+    let x = toZ w16 (ofZ w16 (at-high .before .before .moved .result .predictor)) in
+    omega (arith, length-set (at .loop .out-samples) (2 * at .loop .k) x, at .loop .inv .2, test .loop-test .taken)
 
 loop-again : tie.Need-loop-again Inv-loop μ-loop
 unfolding imaSteps
 loop-again c =
-    let at = c .before .before .before .before .before .before .before .before .before .before in
+    let at-high = c .before .before .before in
+    let at-low = at-high .before .before .before in
+    let test = at-low .before .before .before in
+    let at = test .before in
     let inv = at .loop .inv in
     let k = at .loop .k in
     let w = wideOf (at .loop .wide) in
     let out = at .loop .out-samples in
-    let first = c .before .before .before .before .before .moved in
+    let bytes = tested (at .before) .before .before .before .args .buf .now in
+    let first = at-high .before .before .moved in
     let second = c .before .before .moved2 in
     let f : SFits w16 (first .result .predictor) = search needs in
     let g : SFits w16 (second .result .predictor) = search needs in
-    let low = first .ensures ∙ ap (stepped sixteen imaSteps w) (c .before .before .before .before .before .before .low-nibble .ensures) in
-    let high = second .ensures ∙ ap (stepped sixteen imaSteps (wideOf (first .result))) (c .before .before .before .high-nibble .ensures) in
-    let h : k < 32 = c .before .before .before .before .before .before .before .before .before .loop-test .taken in
-    let turn = two-samples imaSteps w (wideOf (first .result)) (wideOf (second .result)) (at .before .before .before .before .before .before .before .before .args .buf .now) out k low high (omega (arith, inv)) (omega (arith, inv)) in
+    let low = first .ensures ∙ ap (stepped sixteen imaSteps w) (at-low .low-nibble .ensures) in
+    let high = second .ensures ∙ ap (stepped sixteen imaSteps (wideOf (first .result))) (at-high .high-nibble .ensures) in
+    let h : k < 32 = test .loop-test .taken in
+    let turn = two-samples imaSteps w (wideOf (first .result)) (wideOf (second .result)) bytes out k low high (omega (arith, inv)) (omega (arith, inv)) in
     let x = toZ w16 (ofZ w16 (first .result .predictor)) in
     let y = toZ w16 (ofZ w16 (second .result .predictor)) in
     let size = length-set (set out (2 * k) x) (2 * k + 1) y ∙ length-set out (2 * k) x ∙ inv .2 in
     (rw (toZ-ofZ w16 _ f, toZ-ofZ w16 _ g) (turn ∙ inv .0), inv .1, size, omega (arith, h), moved-lt imaSteps (wideOf (first .result)) (wideOf (second .result)) _ (second .ensures))
 
 -- where the loop ends
-ends : (c : tie.After-loop Inv-loop μ-loop) → done (c .before .loop .out-samples) (wideOf (c .before .loop .wide)) ≡ samplesFrom imaSteps 0 (wideOf (c .before .before .widened .result)) (c .before .before .before .before .before .before .before .before .before .args .buf .now)
+ends : (c : tie.After-loop Inv-loop μ-loop) → let at = c .before in done (at .loop .out-samples) (wideOf (at .loop .wide)) ≡ samplesFrom imaSteps 0 (wideOf (at .before .widened .result)) (tested (at .before) .before .before .before .args .buf .now)
 ends c =
     let at = c .before in
     let inv = at .loop .inv in
     let out = at .loop .out-samples in
     let w = wideOf (at .loop .wide) in
-    let bytes = at .before .before .before .before .before .before .before .before .args .buf .now in
+    let bytes = tested (at .before) .before .before .before .args .buf .now in
     let whole = samplesFrom imaSteps 0 (wideOf (at .before .widened .result)) bytes in
     let last : at .loop .k ≡ 32 = omega (arith, c .loop-test .left, inv .3) in
     sym (all out 64 w (omega (arith, inv .2)))
@@ -92,15 +100,14 @@ ends c =
     ∙ subst (λ (k : ℕ). after (take (2 * k) out) (samplesFrom imaSteps k w bytes) ≡ whole) last (inv .0)
 
 same-length : tie.Need-same-length Inv-loop μ-loop
-same-length c = let at = c .before .before in at .loop .inv .2 ∙ sym (lengths (at .before .before .before .before .before) .1)
+same-length c = let at = c .before .before in at .loop .inv .2 ∙ sym (lengths (tested (at .before)) .1)
 
 returns-2 : tie.Need-returns-2 Inv-loop μ-loop
 unfolding decodeBlock decodedBlock
 returns-2 c =
     let at = c .before .before in
-    let s = at .before .before .before .before .before in
-    let a = s .before .before .before .args in
-    let bytes = a .buf .now in
+    let s = tested (at .before) in
+    let bytes = s .before .before .before .args .buf .now in
     let from = at .before .widened .ensures .0 ∙ at .before .before .started .ensures in
     let state = c .narrowed .ensures ∙ narrow-below (wideOf (at .loop .wide)) (at .loop .inv .4) in
     let block = ends (c .before) ∙ ap (λ (st : State). samplesFrom imaSteps 0 st bytes) from in

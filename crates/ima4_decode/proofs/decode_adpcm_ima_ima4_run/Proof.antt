@@ -45,12 +45,13 @@ loop-holds c =
 
 loop-again : tie.Need-loop-again Inv-loop μ-loop
 loop-again c =
-    let at = c .before .before .before .before .before .before in
+    let test = c .before .before .before .before .before in
+    let at = test .before in
     let a = at .before .before .before .before .args in
     let inv = at .loop .inv in
     let call = c .before .before .decode-adpcm-ima-ima4 in
     let same = c .before .out-samples .given in
-    let h = c .before .before .before .before .before .loop-test .taken in
+    let h = test .loop-test .taken in
     let turn = one-block decodedBlock 34 64 decodeBlock decodes (stateOf (a .state)) (a .buf .now) (length (a .buf .now) / 34) (at .loop .i) (stateOf (at .loop .next)) (stateOf (call .result .state)) (call .result .refusal) (at .loop .out-samples) (call .last .1 .1 .0) (call .ensures) (same .0) h (inv .2) (inv .3) (inv .0) in
     (turn, inv .1, inv .2, same .1 ∙ inv .3, omega (arith, h))
 

@@ -40,18 +40,23 @@ returns c =
     rw (is .0, is .1, sym (c .before .before .one .ensures) ∙ failed (c .before .before .one .result) (c .before .if1 .taken)) refl
 
 -- behind the test of the lengths
-taken : (c : tie.Else1 Inv-loop μ-loop) → one (length (c .before .before .before .args .out-buf .now)) (length (c .before .before .before .args .samples .now)) ≡ true
+taken : (c : tie.Else1 Inv-loop μ-loop) → let a = c .before .before .before .args in one (length (a .out-buf .now)) (length (a .samples .now)) ≡ true
 taken c = sym (c .before .one .ensures) ∙ passed (c .before .one .result) (c .if1 .left)
 
-lengths : (c : tie.Else1 Inv-loop μ-loop) → (length (c .before .before .before .args .out-buf .now) ≡ 34) × (length (c .before .before .before .args .samples .now) ≡ 64)
+lengths : (c : tie.Else1 Inv-loop μ-loop) → let a = c .before .before .before .args in (length (a .out-buf .now) ≡ 34) × (length (a .samples .now) ≡ 64)
 lengths c = let a = c .before .before .before .args in sized-are 1 (length (a .out-buf .now)) (length (a .samples .now)) (taken c)
 
 second-place : tie.Need-slice-write-out-buf-2 Inv-loop μ-loop
-second-place c = omega (arith, length-set (c .before .before .before .before .args .out-buf .now) 0 (c .header-of .result .high), lengths (c .before) .0)
+second-place c =
+    let s = c .before in omega (arith, length-set (s .before .before .before .args .out-buf .now) 0 (c .header-of .result .high), lengths s .0)
+
+-- the test of the lengths, from before the loop
+abbrev tested : tie.After-widened Inv-loop μ-loop → tie.Else1 Inv-loop μ-loop
+tested c = c .before .before .before
 
 loop-holds : tie.Need-loop-holds Inv-loop μ-loop
 loop-holds c =
-    let s = c .before .before .before in
+    let s = tested c in
     let (o, x) = lengths s in
     let out = s .before .before .before .args .out-buf .now in
     let header = c .before .before .header-of .result in
@@ -61,27 +66,30 @@ loop-holds c =
 loop-again : tie.Need-loop-again Inv-loop μ-loop
 unfolding imaSteps
 loop-again c =
-    let at = c .before .before .before .before .before .before .before .before .before in
+    let at-second = c .before .before .before in
+    let at-first = at-second .before .before .before in
+    let test = at-first .before .before in
+    let at = test .before in
     let inv = at .loop .inv in
     let k = at .loop .k in
     let w = wideOf (at .loop .wide) in
     let out = at .loop .out-buf in
-    let samples = at .before .before .before .before .before .before .before .args .samples .now in
-    let low = c .before .before .before .before .before .coded in
+    let samples = tested (at .before) .before .before .before .args .samples .now in
+    let low = at-second .before .before .coded in
     let high = c .before .before .coded2 in
-    let h : k < 32 = c .before .before .before .before .before .before .before .before .loop-test .taken in
+    let h : k < 32 = test .loop-test .taken in
     let (low-is, low-below, between) = low .ensures in
     let (high-is, high-below, behind) = high .ensures in
     let e : c .pack .result ≡ 16 * high .result .nibble + low .result .nibble = c .pack .ensures ∙ omega (arith, low-below, high-below) in
-    let f : SFits w16 (getD samples (2 * k) (pos 0)) = search (needs, c .before .before .before .before .before .before .coded-arg .given) in
-    let g : SFits w16 (getD samples (2 * k + 1) (pos 0)) = search (needs, c .before .before .before .coded-arg2 .given) in
+    let f : SFits w16 (getD samples (2 * k) (pos 0)) = search (needs, at-first .coded-arg .given) in
+    let g : SFits w16 (getD samples (2 * k + 1) (pos 0)) = search (needs, at-second .coded-arg2 .given) in
     let v = wideOf (low .result .next) in
     let u = wideOf (high .result .next) in
     let turn = one-byte imaSteps w v u samples out k (low .result .nibble) (high .result .nibble) (low-is ∙ ap (emitted sixteen imaSteps w) (toZ-ofZ w16 _ f)) between (high-is ∙ ap (emitted sixteen imaSteps v) (toZ-ofZ w16 _ g)) behind (omega (arith, inv)) (omega (arith, inv)) in
     (rw e (turn ∙ inv .0), inv .1, length-set out (k + 2) (c .pack .result) ∙ inv .2, omega (arith, h), moved-lt imaSteps v u _ behind)
 
 -- where the loop ends
-ends : (c : tie.After-loop Inv-loop μ-loop) → let of = c .before .before in let s = of .before .before .before in
+ends : (c : tie.After-loop Inv-loop μ-loop) → let of = c .before .before in let s = tested of in
     done (c .before .loop .out-buf) (wideOf (c .before .loop .wide))
     ≡ after (of .before .before .header-of .result .high ∷ of .before .before .header-of .result .low ∷ []) (bytesFrom imaSteps 0 (wideOf (of .widened .result)) (s .before .before .before .args .samples .now))
 ends c =
@@ -89,7 +97,7 @@ ends c =
     let inv = at .loop .inv in
     let out = at .loop .out-buf in
     let w = wideOf (at .loop .wide) in
-    let s = at .before .before .before .before in
+    let s = tested (at .before) in
     let a = s .before .before .before .args in
     let header = at .before .before .before .header-of .result in
     let all-bytes = bytesFrom imaSteps 0 (wideOf (at .before .widened .result)) (a .samples .now) in
@@ -104,7 +112,7 @@ returns-2 : tie.Need-returns-2 Inv-loop μ-loop
 unfolding encodeBlock encodedBlock
 returns-2 c =
     let at = c .before .before in
-    let s = at .before .before .before .before in
+    let s = tested (at .before) in
     let samples = s .before .before .before .args .samples .now in
     let from = at .before .widened .ensures .0 ∙ at .before .before .lowered .ensures in
     let state = c .narrowed .ensures ∙ narrow-below (wideOf (at .loop .wide)) (at .loop .inv .4) in
@@ -112,7 +120,7 @@ returns-2 c =
     rw (taken s) (ap (λ st. answered 0 st (at .loop .out-buf)) state ∙ ap finished block)
 
 same-length : tie.Need-same-length Inv-loop μ-loop
-same-length c = let at = c .before .before in at .loop .inv .2 ∙ sym (lengths (at .before .before .before .before) .0)
+same-length c = let at = c .before .before in at .loop .inv .2 ∙ sym (lengths (tested (at .before)) .0)
 
 pub encode-adpcm-ima-ima4-spec : {M : Type 1} → statement M
 encode-adpcm-ima-ima4-spec =

@@ -54,27 +54,23 @@ lowered c = toZ w32 (ofZ w32 (toZ w16 (ofZ w16 (c .before .before .before .args 
 abbrev raised : tie.Else1 → ℤ
 raised c = toZ w32 (ofZ w32 (toZ w16 (ofZ w16 (c .before .before .before .args .predictor)))) +ℤ toZ w32 (c .before .fewer .result)
 
+-- the predictor and that far is what is aimed at, on either side
+reaches : (c : tie.After-fewer) → let a = c .before .before .args in a .predictor +ℤ signed (a .negative) (c .fewer .result) ≡ goal (a .predictor) (a .negative) (a .d)
+reaches c =
+    let a = c .before .before .args in
+    ap (λ (k : ℕ). a .predictor +ℤ signed (a .negative) k) (far c .0) ∙ sym (step-is (a .predictor) (c .before .before .fits .predictor) (a .d) (a .negative))
+
 down : (c : tie.Then1) → let a = c .before .before .before .args in lowered c ≡ goal (a .predictor) (a .negative) (a .d)
 down c =
-    let a = c .before .before .before .args in
-    let f = c .before .before .before .fits .predictor in
+    let s = c .before .before .before in
     let n = c .before .fewer .result in
-    let (is, h) = far (c .before) in
-    minus (a .predictor) f n h
-    ∙ below (a .predictor) n (a .negative) (c .if1 .taken)
-    ∙ ap (λ (k : ℕ). a .predictor +ℤ signed (a .negative) k) is
-    ∙ sym (step-is (a .predictor) f (a .d) (a .negative))
+    minus (s .args .predictor) (s .fits .predictor) n (far (c .before) .1) ∙ below (s .args .predictor) n (s .args .negative) (c .if1 .taken) ∙ reaches (c .before)
 
 up : (c : tie.Else1) → let a = c .before .before .before .args in raised c ≡ goal (a .predictor) (a .negative) (a .d)
 up c =
-    let a = c .before .before .before .args in
-    let f = c .before .before .before .fits .predictor in
+    let s = c .before .before .before in
     let n = c .before .fewer .result in
-    let (is, h) = far (c .before) in
-    plus (a .predictor) f n h
-    ∙ above (a .predictor) n (a .negative) (c .if1 .left)
-    ∙ ap (λ (k : ℕ). a .predictor +ℤ signed (a .negative) k) is
-    ∙ sym (step-is (a .predictor) f (a .d) (a .negative))
+    plus (s .args .predictor) (s .fits .predictor) n (far (c .before) .1) ∙ above (s .args .predictor) n (s .args .negative) (c .if1 .left) ∙ reaches (c .before)
 
 small-down : (c : tie.Then1) → mag (lowered c) ≤ 32767
 small-down c = let a = c .before .before .before .args in rw (down c) (small (a .predictor) (a .negative) (a .d))

@@ -13,11 +13,14 @@ use Rattle.ms_repacked.proofs.Theorems.{allowed}
 use Rattle.repacking.proofs.repack_adpcm_ima_ms.Statement.{statement}
 use Rattle.repacking.proofs.repack_adpcm_ima_ms.Tie as tie
 
+-- the arguments, from behind the number
+abbrev start : tie.After-repack-refusal → tie.Start
+start c = c .before .before .before
+
 -- the lengths, where the number is 0
-taken : (c : tie.Then1) → let a = c .before .before .before .before .args in Alike (a .channels) (a .block .now) (a .out .now)
+taken : (c : tie.Then1) → let a = start (c .before) .args in Alike (a .channels) (a .block .now) (a .out .now)
 taken c =
-    let s = c .before .before .before .before in
-    let a = s .args in
+    let a = start (c .before) .args in
     allowed (a .channels) (length (a .block .now)) (length (a .out .now)) (sym (c .before .repack-refusal .ensures) ∙ c .if1 .taken)
 
 all-requires : tie.Need-all-requires
@@ -25,20 +28,23 @@ all-requires c κs = taken (c .before)
 
 differs-requires : tie.Need-differs-requires
 differs-requires c κs =
-    let s = c .before .before .before .before .before in sym (c .before .before .out .given ∙ taken s .1)
+    let read = c .before .before in
+    let s = read .before .before .before in
+    sym (read .out .given ∙ taken s .1)
 
 returns : tie.Need-returns
 unfolding repackBlock
 returns c =
-    let s = c .before .before .before .before .before .before in
-    let a = s .before .before .before .before .args in
-    let is = c .before .before .before .before .all .ensures in
+    let read = c .before .before .before in
+    let s = read .before .before .before in
+    let a = start (s .before) .args in
+    let is = read .before .all .ensures in
     rw (sym (s .before .repack-refusal .ensures) ∙ s .if1 .taken) (ap₂ (λ (b : Bool) (bs : List ℕ). answered 0 b bs) (c .differs .ensures ∙ ap (differ (a .block .now)) is) is)
 
 returns-2 : tie.Need-returns-2
 unfolding repackBlock
 returns-2 c =
-    let a = c .before .before .before .before .args in
+    let a = start (c .before) .args in
     let is = c .before .repack-refusal .ensures in
     let other : repackRefusal (a .channels) (length (a .block .now)) (length (a .out .now)) ≡ 0 → ⊥ = λ e. c .if1 .left (is ∙ e) in
     rw (ne-eqb (repackRefusal (a .channels) (length (a .block .now)) (length (a .out .now))) 0 other) (ap (λ (k : ℕ). answered k false (a .out .now)) is)
