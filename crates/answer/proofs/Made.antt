@@ -11,7 +11,7 @@ use borrow.Author.Tests.{ne-eqb, eqb-true}
 use borrow.Table.Steps.{cases}
 use Rattle.ms_block.specs.Sizes.{samplesOf, repackRefusal}
 use Rattle.ms_block.proofs.Sizes.{shape}
-use Rattle.ms_repacked.specs.Repack.{repacked, differ, answered, repackBlock}
+use Rattle.ms_repacked.specs.Repack.{repacked, anyChange, answered, repackMs}
 use Rattle.ms_repacked.proofs.Settled.{repacked-length}
 use Rattle.ms_repacked.proofs.Theorems.{allowed}
 use Rattle.text.specs.Text.{ascii, hex, line, Stands}
@@ -20,8 +20,8 @@ use Rattle.answer.specs.Answer as Says
 use Rattle.answer.specs.Answer.{Small, said, lossOf}
 
 -- the number that repacking answers
-refusal-is : (c : ℕ) (block out : List ℕ) → repackBlock c block out .refusal ≡ repackRefusal c (length block) (length out)
-unfolding repackBlock
+refusal-is : (c : ℕ) (block out : List ℕ) → repackMs c block out .refusal ≡ repackRefusal c (length block) (length out)
+unfolding repackMs
 refusal-is c block out =
     let number = repackRefusal c (length block) (length out) in
     cases (eqb number 0) (λ t. rw t (sym (eqb-true number 0 t))) (λ t. rw t refl)
@@ -33,7 +33,7 @@ pub record Made (c : ℕ) (block : List ℕ) (differs : Bool) (xs : List ℕ) : 
   pub says : let new = take (length block) xs in Says.answered c block ≡ line (said differs (lossOf c block new) ++ hex new)
 
 module _ (c : ℕ) (block out xs : List ℕ) (k : ℕ) (differs : Bool) (few : length block ≤ 4096) (room : length out ≡ 4096)
-    (e : answered k differs xs ≡ repackBlock c block (take (length block) out)) where
+    (e : answered k differs xs ≡ repackMs c block (take (length block) out)) where
   long : length (take (length block) out) ≡ length block
   long = length-take-le (length block) out (omega (arith, few, room))
 
@@ -47,12 +47,12 @@ module _ (c : ℕ) (block out xs : List ℕ) (k : ℕ) (differs : Bool) (few : l
       rw (ne-eqb (repackRefusal c (length block) (length block)) 0 other, ← number) refl
 
   pub made : k ≡ 0 → Made c block differs (xs ++ drop (length block) out)
-  unfolding repackBlock Says.answered Says.told
+  unfolding repackMs Says.answered Says.told
   made done =
       let n = length block in
       let taken : repackRefusal c n n ≡ 0 = sym number ∙ done in
       let small : Small c block = (allowed c n n taken .0, few) in
-      let result : answered k differs xs ≡ answered 0 (differ block (repacked c block)) (repacked c block) = e ∙ rw (long, taken) refl in
+      let result : answered k differs xs ≡ answered 0 (anyChange block (repacked c block)) (repacked c block) = e ∙ rw (long, taken) refl in
       let xs-are = ap (λ r. r .buffer) result in
       let many = ap length xs-are ∙ repacked-length block (shape c n (samplesOf c n) (small .0)) in
       let new-is = take-at xs (drop n out) n many ∙ xs-are in

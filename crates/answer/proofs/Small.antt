@@ -8,8 +8,8 @@ use lib.ListN.{length, take, drop, length-append, length-drop}
 use lib.Seq.{take-at, length-take-le}
 use Rattle.ms_block.specs.Sizes.{samplesOf}
 use Rattle.ms_block.proofs.Sizes.{shape}
-use Rattle.ms_block.specs.Block.{decodedBlock}
-use Rattle.ms_block.specs.Call.{answered, decodeBlock}
+use Rattle.ms_block.specs.Block.{decodedMsBlock}
+use Rattle.ms_block.specs.Call.{answered, decodeMs}
 use Rattle.ms_repacked.proofs.Settled.{samples-shape}
 use Rattle.answer.specs.Answer.{Small}
 
@@ -20,15 +20,15 @@ module _ (c : ℕ) (block : List ℕ) (small : Small c block) where
   pub samples-few : samplesOf c (length block) ≤ 8185
   samples-few = omega (arith, small .1, shape c (length block) (samplesOf c (length block)) (small .0) .some)
 
-  decoded-many : length (decodedBlock c block) ≡ samplesOf c (length block)
+  decoded-many : length (decodedMsBlock c block) ≡ samplesOf c (length block)
   decoded-many = samples-shape block (shape c (length block) (samplesOf c (length block)) (small .0)) .fits
 
   -- what was decoded into the first places of an array, and the rest of it
-  pub decodes : (k n : ℕ) (xs out : List ℤ) → n ≡ samplesOf c (length block) → length out ≡ 8185 → answered k [] xs ≡ decodeBlock c block (take n out)
-      → (length (xs ++ drop n out) ≡ 8185) × (take (samplesOf c (length block)) (xs ++ drop n out) ≡ decodedBlock c block)
-  unfolding decodeBlock
+  pub decodes : (k n : ℕ) (xs out : List ℤ) → n ≡ samplesOf c (length block) → length out ≡ 8185 → answered k [] xs ≡ decodeMs c block (take n out)
+      → (length (xs ++ drop n out) ≡ 8185) × (take (samplesOf c (length block)) (xs ++ drop n out) ≡ decodedMsBlock c block)
+  unfolding decodeMs
   decodes k n xs out n-is size e =
       let long : length (take n out) ≡ samplesOf c (length block) = length-take-le n out (omega (arith, n-is, size, samples-few)) ∙ n-is in
-      let xs-are : xs ≡ decodedBlock c block = ap (λ r. r .buffer) e ∙ rw (long, small .0) refl in
+      let xs-are : xs ≡ decodedMsBlock c block = ap (λ r. r .buffer) e ∙ rw (long, small .0) refl in
       let many = ap length xs-are ∙ decoded-many in
       (length-append xs (drop n out) ∙ omega (arith, many, n-is, size, samples-few, length-drop n out), take-at xs (drop n out) (samplesOf c (length block)) many ∙ xs-are)

@@ -5,8 +5,8 @@ use Prim.Native.Nat.{ℕ, _≤_}
 use lib.Dec.{eqb}
 use lib.ListN.{length}
 use Rattle.ms_block.specs.Sizes.{samplesOf, repackRefusal, Taken}
-use Rattle.ms_block.specs.Block.{decodedBlock}
-use Rattle.ms_repacked.specs.Repack.{repacked, differ}
+use Rattle.ms_block.specs.Block.{decodedMsBlock}
+use Rattle.ms_repacked.specs.Repack.{repacked, anyChange}
 use Rattle.loss.specs.Loss.{Reported, lossReport}
 use Rattle.text.specs.Text.{hex, line}
 use Rattle.lines.specs.Lines.{refused, same, changed}
@@ -14,7 +14,7 @@ use Rattle.record.specs.Record.{channelsOf, blockOf, wellFormed}
 
 -- What changed is the loss report of old against new samples.
 abbrev pub lossOf : ℕ → List ℕ → List ℕ → Reported
-lossOf c old new = lossReport (decodedBlock c old) (decodedBlock c new)
+lossOf c old new = lossReport (decodedMsBlock c old) (decodedMsBlock c new)
 
 abbrev pub said : Bool → Reported → List ℕ
 said differs r = cond differs (changed r) same
@@ -23,7 +23,7 @@ said differs r = cond differs (changed r) same
 unfoldable pub told : ℕ → List ℕ → List ℕ
 told c block =
     let new = repacked c block in
-    said (differ block new) (lossOf c block new) ++ line (hex new)
+    said (anyChange block new) (lossOf c block new) ++ line (hex new)
 
 -- 4 is tested first, then 1 and 2.
 unfoldable pub answered : ℕ → List ℕ → List ℕ

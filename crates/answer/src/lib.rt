@@ -12,7 +12,7 @@ use text::put_hex;
 ghost use mathlib.Core.Path.{_≡_};
 ghost use Prim.Native.Nat.{_≤_};
 ghost use lib.ListN.{length, take};
-ghost use Rattle.ms_block.specs.Block.{decodedBlock};
+ghost use Rattle.ms_block.specs.Block.{decodedMsBlock};
 ghost use Rattle.ms_block.specs.Sizes.{samplesOf};
 ghost use Rattle.text.specs.Text.{Stands};
 ghost use Rattle.lines.specs.Lines as Lines;
@@ -75,7 +75,7 @@ fn changed(channels: u8, old: &[u8], new: &[u8], out: &mut [u8; ROOM]) -> usize
 // The samples of a block, at the start of an array.
 fn decoded(channels: u8, block: &[u8]) -> [i16; 8185]
     requires { ⌜ Small channels (now block) ⌝ }
-    ensures { λ r. ⌜ (length r ≡ 8185) × (take (samplesOf channels (length (now (block .entry)))) r ≡ decodedBlock channels (now (block .entry))) ⌝ }
+    ensures { λ r. ⌜ (length r ≡ 8185) × (take (samplesOf channels (length (now (block .entry)))) r ≡ decodedMsBlock channels (now (block .entry))) ⌝ }
 {
     let m = samples(channels, block.len());
     let mut out = no_samples();

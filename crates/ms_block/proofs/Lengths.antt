@@ -6,11 +6,11 @@ use native.Mathlib.Omega.{arith}
 use lib.Dec.{eqb, leb}
 use borrow.Author.Tests.{eq-eqb, leb-true}
 use borrow.Table.Steps.{cases}
-use Rattle.ms_block.specs.Sizes.{channelled, sized, samplesOf, refusedBy, refusalOf, repackRefusal}
+use Rattle.ms_block.specs.Sizes.{channelled, sized, samplesOf, refusedBy, msRefusal, repackRefusal}
 
 -- A block longer than is allowed is refused whatever its samples are said to be.
-of-block : (c n : ℕ) → refusalOf c n (samplesOf c (min n 65536)) ≡ refusedBy c (sized c n)
-unfolding refusalOf
+of-block : (c n : ℕ) → msRefusal c n (samplesOf c (min n 65536)) ≡ refusedBy c (sized c n)
+unfolding msRefusal
 of-block c n =
     ap (refusedBy c) {x = sized c n && eqb (samplesOf c (min n 65536)) (samplesOf c n)} {y = sized c n}
     (cases (leb n 65535)
@@ -29,7 +29,7 @@ under true true fit k e h = refl
 under true false fit k e h = absurd (omega (arith, e, h))
 under false b fit k e h = absurd (omega (arith, e, h))
 
-module _ (c n m k : ℕ) (is : k ≡ refusalOf c n (samplesOf c (min n 65536))) where
+module _ (c n m k : ℕ) (is : k ≡ msRefusal c n (samplesOf c (min n 65536))) where
   pub refused : (k ≡ 0 → ⊥) → k ≡ repackRefusal c n m
   unfolding repackRefusal
   refused h = over (channelled c) (sized c n) (eqb m n) k (is ∙ of-block c n) h

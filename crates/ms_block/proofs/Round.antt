@@ -19,12 +19,12 @@ use Rattle.ima_nibble.specs.Table.{imaSteps}
 use Rattle.ima_nibble.specs.Series.{Done, Within, encoded, predictors, nibblesOf}
 use Rattle.ima_nibble.proofs.Series.{packed-length, nibbles-length, decoded-length, encoded-length, decoded-lowered, decodes-back, encoded-unpacked}
 use Rattle.ms_block.specs.Header.{headOf}
-use Rattle.ms_block.specs.Sizes.{most, samplesOf, bytesOf, refusalOf}
+use Rattle.ms_block.specs.Sizes.{most, samplesOf, bytesOf, msRefusal}
 use Rattle.ms_block.specs.Weave.{place, channelAt, itemAt, strand, woven}
 use Rattle.ms_block.proofs.Sizes.{Shape, four-bytes, samples-each, even-samples}
 use Rattle.ms_block.proofs.Weave.{woven-length, strand-length, unwoven}
-use Rattle.ms_block.specs.Block.{decodedChannel, encodedChannel, bytesIn, samplesIn, decodedBlock, stateIn, each, begunIn, begun, encodedIn, blockFrom, statesFrom, encodedBlock}
-use Rattle.ms_block.specs.Call.{encodeBlock}
+use Rattle.ms_block.specs.Block.{decodedChannel, encodedChannel, bytesIn, samplesIn, decodedMsBlock, stateIn, each, begunIn, begun, encodedIn, blockFrom, statesFrom, encodedMsBlock, heard}
+use Rattle.ms_block.specs.Call.{encodeMs}
 
 abbrev enc : State → List ℤ → Done ℕ
 enc = encoded sixteen imaSteps
@@ -61,8 +61,8 @@ module _ (k : ℕ) (st : State) (xs : List ℤ) (many : length xs ≡ 1 + 2 * k)
 
 -- Channel e of the samples is channel e of the bytes, decoded.
 pub channel-decoded : {c m : ℕ} (bytes : List ℕ) → Shape c (length bytes) m → (e : ℕ) → e < c
-    → samplesIn c (decodedBlock c bytes) e ≡ decodedChannel (bytesIn c bytes e)
-unfolding decodedBlock
+    → samplesIn c (decodedMsBlock c bytes) e ≡ decodedChannel (bytesIn c bytes e)
+unfolding decodedMsBlock
 channel-decoded {c} {m} bytes is e h =
     let hc : 0 < c = omega (arith, h) in
     let own = strand-length 4 c (omega arith) hc 0 bytes e in
@@ -91,18 +91,12 @@ in-each c states f e h few =
     table g (from most 0 g) most refl e (state (pos 0) 0) (omega arith) ∙ rw (lt-ltb e c h)
 
 -- as many states come back as went in
-pub states-length : (c : ℕ) (samples : List ℤ) (states : List State) (out : List ℕ) → length states ≡ most → length (encodeBlock c samples states out .states) ≡ most
-unfolding encodeBlock statesFrom
+pub states-length : (c : ℕ) (samples : List ℤ) (states : List State) (out : List ℕ) → length states ≡ most → length (encodeMs c samples states out .back) ≡ most
+unfolding encodeMs statesFrom
 states-length c samples states out h =
-    cases (eqb (refusalOf c (length out) (length samples)) 0)
+    cases (eqb (msRefusal c (length out) (length samples)) 0)
     (λ t. rw t (length-from _ most 0))
     (λ t. rw t h)
-
--- What is heard of channel e: the first sample, and then the encoder's predictor at every sample.
-abbrev pub heard : ℕ → List State → List ℤ → ℕ → List ℤ
-heard c states samples e =
-    let xs = samplesIn c samples e in
-    getD xs 0 (pos 0) ∷ predictors sixteen imaSteps (begunIn c states samples e) (drop 1 xs)
 
 zero-in : In sixteen (pos 0)
 zero-in = record { above = record { le = tt }; below = record { le = tt } }
@@ -112,8 +106,8 @@ pub samples-within : (c : ℕ) (samples : List ℤ) (e : ℕ) → Within sixteen
 unfolding strand
 samples-within c samples e within = all-from _ (In sixteen) (λ d. all-at (In sixteen) samples (place 1 c e d) (pos 0) zero-in within) (length samples / c) 0
 
-pub decoded-within : (c : ℕ) (bytes : List ℕ) → ((e : ℕ) → Within sixteen (decodedChannel (bytesIn c bytes e))) → Within sixteen (decodedBlock c bytes)
-unfolding decodedBlock woven
+pub decoded-within : (c : ℕ) (bytes : List ℕ) → ((e : ℕ) → Within sixteen (decodedChannel (bytesIn c bytes e))) → Within sixteen (decodedMsBlock c bytes)
+unfolding decodedMsBlock woven
 decoded-within c bytes within =
     all-from _ (In sixteen) (λ p. all-at (In sixteen) (decodedChannel (bytesIn c bytes (channelAt 1 c p))) (itemAt 1 c p) (pos 0) zero-in (within (channelAt 1 c p)))
     (samplesOf c (length bytes)) 0
@@ -142,7 +136,7 @@ module _ {c n : ℕ} (samples : List ℤ) (is : Shape c n (length samples)) wher
         (encoded-many (n / c - 4) (stateIn states e) (samplesIn c samples e) samples-many ∙ omega (arith, four-bytes is)))
 
     -- the same from the states that the encoder begins with
-    pub channel-begun : (states : List State) → bytesIn c (encodedBlock c states samples) e ≡ encodedChannel (begunIn c states samples e) (samplesIn c samples e) .written
+    pub channel-begun : (states : List State) → bytesIn c (encodedMsBlock c states samples) e ≡ encodedChannel (begunIn c states samples e) (samplesIn c samples e) .written
     unfolding begun
     channel-begun states =
         channel-encoded (begun c states samples)
@@ -152,7 +146,7 @@ module _ {c n : ℕ} (samples : List ℤ) (is : Shape c n (length samples)) wher
     first-within within = all-at (In sixteen) (samplesIn c samples e) 0 (pos 0) zero-in (samples-within c samples e within)
 
     -- there and back
-    pub channel-heard : Within sixteen samples → (states : List State) → decodedChannel (bytesIn c (encodedBlock c states samples) e) ≡ heard c states samples e
+    pub channel-heard : Within sixteen samples → (states : List State) → decodedChannel (bytesIn c (encodedMsBlock c states samples) e) ≡ heard c states samples e
     channel-heard within states =
         ap decodedChannel (channel-begun states)
         ∙ read-back (n / c - 4) (begunIn c states samples e) (samplesIn c samples e) samples-many (first-within within)

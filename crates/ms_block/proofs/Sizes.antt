@@ -8,7 +8,7 @@ use native.Mathlib.Nat.{le-of-mul-le-mul-left}
 use native.Mathlib.Omega.{arith}
 use borrow.Author.Tests.{eqb-true, leb-true}
 use borrow.Table.Steps.{cases}
-use Rattle.ms_block.specs.Sizes.{most, channelled, sized, samplesOf, refusalOf}
+use Rattle.ms_block.specs.Sizes.{most, channelled, sized, samplesOf, msRefusal}
 use Rattle.ms_block.proofs.Weave.{Even, quotient, rest, shared}
 
 pub record Shape (c n m : ℕ) : Type 0 where
@@ -27,8 +27,8 @@ passed false b t = absurd (omega (arith, t))
 either : (c k : ℕ) → (eqb c 1 || eqb k 0) ≡ true → (c ≡ 1) ⊎ (k ≡ 0)
 either c k t = cases (eqb c 1) (λ e. inl (eqb-true c 1 e)) (λ e. inr (eqb-true k 0 (rw e at t)))
 
-pub shape : (c n m : ℕ) → refusalOf c n m ≡ 0 → Shape c n m
-unfolding refusalOf
+pub shape : (c n m : ℕ) → msRefusal c n m ≡ 0 → Shape c n m
+unfolding msRefusal
 shape c n m t =
     let (channels, lengths) = passed (channelled c) (sized c n && eqb m (samplesOf c n)) t in
     let (some, few) = and-eq-true-iff (leb 1 c) (leb c most) .0 channels in

@@ -1,25 +1,26 @@
 -- What each channel of a block depends on, and what decoding makes of an encoded block. Over any number of channels that is taken. Assumes nothing.
 use mathlib.Core.Path.{_≡_, sym, ap, ap₂, _∙_}
-use mathlib.Core.List.{List, []}
+use mathlib.Core.List.{List}
 use Prim.Native.Nat.{ℕ, _<_}
 use native.Mathlib.Omega.{arith}
 use lib.IntN.{ℤ, pos}
 use lib.ListN.{length, getD}
+use Rattle.num.specs.Outcome.{outcome}
 use Rattle.ima_nibble.specs.Step.{State, state, sixteen}
 use Rattle.ima_nibble.specs.Series.{Within}
 use Rattle.ms_block.specs.Weave.{woven}
 use Rattle.ms_block.proofs.Sizes.{Shape, shape}
 use Rattle.ms_block.proofs.Weave.{woven-same}
-use Rattle.ms_block.specs.Block.{decodedChannel, encodedChannel, bytesIn, samplesIn, decodedBlock, stateIn, begun, encodedBlock}
-use Rattle.ms_block.specs.Call.{answered, decodeBlock, encodeBlock}
+use Rattle.ms_block.specs.Block.{decodedChannel, encodedChannel, bytesIn, samplesIn, decodedMsBlock, stateIn, begun, encodedMsBlock, heard}
+use Rattle.ms_block.specs.Call.{decodeMs, encodeMs}
 use Rattle.ms_block.specs.Sizes.{Taken}
-use Rattle.ms_block.proofs.Round.{heard, channel-decoded, block-length, channel-begun, channel-heard}
+use Rattle.ms_block.proofs.Round.{channel-decoded, block-length, channel-begun, channel-heard}
 
 -- ---- each channel alone
 
 -- A channel's samples depend on that channel's header and bytes alone;
 pub own-bytes-alone : (c m : ℕ) (bytes others : List ℕ) → Taken c (length bytes) m → length others ≡ length bytes → (e : ℕ) → e < c
-    → bytesIn c bytes e ≡ bytesIn c others e → samplesIn c (decodedBlock c bytes) e ≡ samplesIn c (decodedBlock c others) e
+    → bytesIn c bytes e ≡ bytesIn c others e → samplesIn c (decodedMsBlock c bytes) e ≡ samplesIn c (decodedMsBlock c others) e
 own-bytes-alone c m bytes others taken long e h same =
     let is = shape c (length bytes) m taken in
     let is′ = shape c (length others) m (rw long taken) in
@@ -28,7 +29,7 @@ own-bytes-alone c m bytes others taken long e h same =
 -- and its bytes on its own samples and the index that it comes with alone.
 pub own-samples-alone : (c n : ℕ) (samples others : List ℤ) (states starts : List State) → Taken c n (length samples) → length others ≡ length samples → (e : ℕ) → e < c
     → samplesIn c samples e ≡ samplesIn c others e → stateIn states e .index ≡ stateIn starts e .index
-    → bytesIn c (encodedBlock c states samples) e ≡ bytesIn c (encodedBlock c starts others) e
+    → bytesIn c (encodedMsBlock c states samples) e ≡ bytesIn c (encodedMsBlock c starts others) e
 own-samples-alone c n samples others states starts taken long e h same index =
     let is = shape c n (length samples) taken in
     let is′ = shape c n (length others) (rw long taken) in
@@ -43,21 +44,21 @@ module _ (c : ℕ) (samples : List ℤ) (within : Within sixteen samples) (state
   is : Shape c (length out) (length samples)
   is = shape c (length out) (length samples) taken
 
-  long : length (encodedBlock c states samples) ≡ length out
+  long : length (encodedMsBlock c states samples) ≡ length out
   long = block-length samples is (begun c states samples)
 
-  decoded-is : decodedBlock c (encodedBlock c states samples) ≡ woven 1 c (pos 0) (length samples) (heard c states samples)
-  unfolding decodedBlock
+  decoded-is : decodedMsBlock c (encodedMsBlock c states samples) ≡ woven 1 c (pos 0) (length samples) (heard c states samples)
+  unfolding decodedMsBlock
   decoded-is =
       rw (long, ← (is .fits))
       (woven-same 1 c (omega arith) (omega (arith, is .some)) (pos 0) (length samples) _ (heard c states samples) (λ e h. channel-heard samples is e h within states))
 
   -- What the encoder writes decodes to the first sample and then the encoder's predictor at every sample, for each channel.
   pub decodes-back : (back : List ℤ) → length back ≡ length samples
-      → decodeBlock c (encodeBlock c samples states out .buffer) back ≡ answered 0 [] (woven 1 c (pos 0) (length samples) (heard c states samples))
-  unfolding decodeBlock encodeBlock
-  decodes-back back room = rw (taken, long, room, taken) (ap (answered 0 []) decoded-is)
+      → decodeMs c (encodeMs c samples states out .buffer) back ≡ outcome 0 tt (woven 1 c (pos 0) (length samples) (heard c states samples))
+  unfolding decodeMs encodeMs
+  decodes-back back room = rw (taken, long, room, taken) (ap (outcome 0 tt) decoded-is)
 
   -- the same of one channel
-  pub channel-decodes-back : (e : ℕ) → e < c → samplesIn c (decodedBlock c (encodedBlock c states samples)) e ≡ heard c states samples e
-  channel-decodes-back e h = channel-decoded {m = length samples} (encodedBlock c states samples) (rw long is) e h ∙ channel-heard samples is e h within states
+  pub channel-decodes-back : (e : ℕ) → e < c → samplesIn c (decodedMsBlock c (encodedMsBlock c states samples)) e ≡ heard c states samples e
+  channel-decodes-back e h = channel-decoded {m = length samples} (encodedMsBlock c states samples) (rw long is) e h ∙ channel-heard samples is e h within states

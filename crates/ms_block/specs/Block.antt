@@ -8,8 +8,8 @@ use lib.ListN.{length, getD, drop}
 use Rattle.num.specs.Lists.{from}
 use Rattle.ima_nibble.specs.Step.{State, state, sixteen}
 use Rattle.ima_nibble.specs.Table.{imaSteps}
-use Rattle.ima_nibble.specs.Series.{Done, done, decoded, encoded, nibblesOf, packed}
-use Rattle.ms_block.specs.Header.{header, headOf}
+use Rattle.ima_nibble.specs.Series.{Done, done, decoded, encoded, predictors, nibblesOf, packed}
+use Rattle.ms_block.specs.Header.{msHeader, headOf}
 use Rattle.ms_block.specs.Sizes.{most, samplesOf, bytesOf}
 use Rattle.ms_block.specs.Weave.{strand, woven}
 
@@ -23,7 +23,7 @@ decodedChannel bytes = let head = headOf bytes in head .predictor ∷ decoded si
 unfoldable pub encodedChannel : State → List ℤ → Done ℕ
 encodedChannel st samples =
     let nibbles = encoded sixteen imaSteps st (drop 1 samples) in
-    done (header st ++ packed (nibbles .written)) (nibbles .end)
+    done (msHeader st ++ packed (nibbles .written)) (nibbles .end)
 
 -- ---- All channels: four bytes left, four bytes right, headers included; and interleaved samples
 
@@ -34,8 +34,8 @@ abbrev pub samplesIn : ℕ → List ℤ → ℕ → List ℤ
 samplesIn c samples e = strand 1 c (pos 0) samples e
 
 -- Each channel starts from its header.
-unfoldable pub decodedBlock : ℕ → List ℕ → List ℤ
-decodedBlock c bytes = woven 1 c (pos 0) (samplesOf c (length bytes)) (λ e. decodedChannel (bytesIn c bytes e))
+unfoldable pub decodedMsBlock : ℕ → List ℕ → List ℤ
+decodedMsBlock c bytes = woven 1 c (pos 0) (samplesOf c (length bytes)) (λ e. decodedChannel (bytesIn c bytes e))
 
 -- The channel states travel together; those of channels that are not there come back as they went in.
 abbrev pub stateIn : List State → ℕ → State
@@ -61,8 +61,14 @@ blockFrom c states samples = woven 4 c 0 (bytesOf c (length samples)) (λ e. enc
 unfoldable pub statesFrom : ℕ → List State → List ℤ → List State
 statesFrom c states samples = each c states (λ e. encodedIn c states samples e .end)
 
-abbrev pub encodedBlock : ℕ → List State → List ℤ → List ℕ
-encodedBlock c states samples = blockFrom c (begun c states samples) samples
+abbrev pub encodedMsBlock : ℕ → List State → List ℤ → List ℕ
+encodedMsBlock c states samples = blockFrom c (begun c states samples) samples
 
 abbrev pub encodedStates : ℕ → List State → List ℤ → List State
 encodedStates c states samples = statesFrom c (begun c states samples) samples
+
+-- What is heard of channel e when it is decoded again: the first sample, and then the encoder's predictor at every sample.
+abbrev pub heard : ℕ → List State → List ℤ → ℕ → List ℤ
+heard c states samples e =
+    let xs = samplesIn c samples e in
+    getD xs 0 (pos 0) ∷ predictors sixteen imaSteps (begunIn c states samples e) (drop 1 xs)

@@ -6,8 +6,8 @@ use Rattle.num.specs.Halves.{bitsOf, fromHalves}
 use Rattle.ima_nibble.specs.Step.{State, state, sixteen, lowered}
 
 -- Per channel a header of four bytes: predictor little-endian, index, one byte ignored on reading and written 0.
-abbrev pub header : State → List ℕ
-header st = (bitsOf (st .predictor) % 256) ∷ (bitsOf (st .predictor) / 256) ∷ st .index ∷ 0 ∷ []
+abbrev pub msHeader : State → List ℕ
+msHeader st = (bitsOf (st .predictor) % 256) ∷ (bitsOf (st .predictor) / 256) ∷ st .index ∷ 0 ∷ []
 
 -- The decoder lowers an index above 88.
 abbrev pub headed : ℕ → ℕ → ℕ → State

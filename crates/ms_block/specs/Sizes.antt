@@ -28,8 +28,8 @@ abbrev pub refusedBy : ℕ → Bool → ℕ
 refusedBy c fit = cond (channelled c) (cond fit 0 2) 1
 
 -- The two lengths of a decoder or an encoder: a block's, and that of its samples.
-unfoldable pub refusalOf : ℕ → ℕ → ℕ → ℕ
-refusalOf c n m = refusedBy c (sized c n && eqb m (samplesOf c n))
+unfoldable pub msRefusal : ℕ → ℕ → ℕ → ℕ
+msRefusal c n m = refusedBy c (sized c n && eqb m (samplesOf c n))
 
 -- The two lengths of repacking: a block's, and that of the second buffer, which is equal.
 unfoldable pub repackRefusal : ℕ → ℕ → ℕ → ℕ
@@ -37,4 +37,4 @@ repackRefusal c n m = refusedBy c (sized c n && eqb m n)
 
 -- 0: the call is done.
 abbrev pub Taken : ℕ → ℕ → ℕ → Type 0
-Taken c n m = refusalOf c n m ≡ 0
+Taken c n m = msRefusal c n m ≡ 0

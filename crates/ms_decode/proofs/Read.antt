@@ -14,7 +14,7 @@ use Rattle.ima_nibble.specs.Series.{decoded, nibblesOf}
 use Rattle.ms_block.specs.Header.{headOf}
 use Rattle.ms_block.proofs.Sizes.{Shape, four-bytes, samples-each, even-samples}
 use Rattle.ms_block.proofs.Weave.{weaves, singly, in-list, in-strand, strand-at, strand-length}
-use Rattle.ms_block.specs.Block.{decodedChannel, bytesIn, decodedBlock}
+use Rattle.ms_block.specs.Block.{decodedChannel, bytesIn, decodedMsBlock}
 use Rattle.ms_decode.specs.Private.{Headed}
 use Rattle.ms_block.proofs.OwnBytes.{moved, before, sample, low, high, low-is, high-is, next-is}
 use Rattle.ms_block.proofs.Midst.{byte, States, states-first, state-now, states-turn, Frames, frames-first, frames-turn}
@@ -107,8 +107,8 @@ module _ (c : ℕ) (hc : 0 < c) (bytes : List ℕ) where
       (subst (λ (p : ℕ). Upto c bytes p (set (set out (c * (2 * d - 7) + ch) (one .predictor)) (c * (2 * d - 7) + ch + c) (two .predictor)) (set states ch two)) there
       (subst (λ (sts : List State). Upto c bytes (suc (byte c ch d)) (set (set out (c * (2 * d - 7) + ch) (one .predictor)) (c * (2 * d - 7) + ch + c) (two .predictor)) sts) (set-set states ch st two) next))
 
-  pub ends : (out : List ℤ) (states : List State) → Shape c (length bytes) (length out) → Upto c bytes (length bytes) out states → out ≡ decodedBlock c bytes
-  unfolding decodedBlock
+  pub ends : (out : List ℤ) (states : List State) → Shape c (length bytes) (length out) → Upto c bytes (length bytes) out states → out ≡ decodedMsBlock c bytes
+  unfolding decodedMsBlock
   ends out states is u =
       weaves 1 c (omega arith) hc (pos 0) (2 * length bytes - 7 * c) (λ e. decodedChannel (bytesIn c bytes e)) out (is .fits)
       (λ e k l b.

@@ -8,17 +8,18 @@ use num::high_nibble;
 use num::lesser;
 use num::low_nibble;
 ghost use mathlib.Core.Path.{_≡_};
-ghost use mathlib.Core.List.{[], map};
+ghost use mathlib.Core.List.{map};
 ghost use lib.ListN.{length};
+ghost use Rattle.num.specs.Outcome.{outcome};
 ghost use Rattle.ima_step.specs.View.{wideOf};
 ghost use Rattle.ms_block.specs.Sizes.{Taken};
-ghost use Rattle.ms_block.specs.Block.{decodedBlock};
-ghost use Rattle.ms_block.specs.Call.{answered, decodeBlock};
+ghost use Rattle.ms_block.specs.Block.{decodedMsBlock};
+ghost use Rattle.ms_block.specs.Call.{decodeMs};
 ghost use Rattle.ms_decode.specs.Private.{Headed};
 
 // The number is 0 for done, or of a refusal, and then nothing is written.
 pub fn decode_adpcm_ima_ms(channels: u8, buf: &[u8], out_samples: &mut [i16]) -> u8
-    ensures { λ r. ⌜ answered r [] (now («out_samples» .exit)) ≡ decodeBlock channels (now (buf .entry)) (now («out_samples» .entry)) ⌝ }
+    ensures { λ r. ⌜ outcome r tt (now («out_samples» .exit)) ≡ decodeMs channels (now (buf .entry)) (now («out_samples» .entry)) ⌝ }
 {
     let c = channels as usize;
     let number = refusal(c, buf.len(), out_samples.len());
@@ -49,7 +50,7 @@ fn heads(c: usize, buf: &[u8], out_samples: &mut [i16]) -> [Wide; MOST]
 // Group by group, four bytes of each channel in turn. A channel's last group may be shorter.
 fn groups(c: usize, buf: &[u8], heads: [Wide; MOST], out_samples: &mut [i16])
     requires { ⌜ Taken c (length (now buf)) (length (now «out_samples»)) × Headed c (now buf) c (now «out_samples») (map wideOf heads) ⌝ }
-    ensures { λ r. ⌜ now («out_samples» .exit) ≡ decodedBlock c (now (buf .entry)) ⌝ }
+    ensures { λ r. ⌜ now («out_samples» .exit) ≡ decodedMsBlock c (now (buf .entry)) ⌝ }
 {
     let steps = IMA_STEP_TABLE;
     let n = buf.len();

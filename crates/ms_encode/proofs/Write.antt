@@ -17,7 +17,7 @@ use Rattle.ima_nibble.specs.Series.{encoded}
 use Rattle.ms_block.specs.Sizes.{most, bytesOf}
 use Rattle.ms_block.proofs.Sizes.{Shape, four-bytes, samples-each}
 use Rattle.ms_block.proofs.Weave.{singly, in-list, in-strand, strand-at, strand-length, woven-at}
-use Rattle.ms_block.specs.Block.{encodedChannel, samplesIn, stateIn, begunIn, begun, encodedIn, blockFrom, statesFrom, encodedBlock}
+use Rattle.ms_block.specs.Block.{encodedChannel, samplesIn, stateIn, begunIn, begun, encodedIn, blockFrom, statesFrom, encodedMsBlock}
 use Rattle.ms_block.proofs.Midst.{byte, in-group, States, states-first, state-now, states-turn}
 use Rattle.ms_block.proofs.OwnSamples.{gives, moved, before, byte-is, next-is}
 use Rattle.ms_block.proofs.Round.{each-is, in-each, block-length}
@@ -137,7 +137,7 @@ module _ {c n : ℕ} (samples : List ℤ) (starts : List State) (is : Shape c n 
 
 -- those of the first k channels are written, and their predictors set
 pub record Begun (c : ℕ) (samples : List ℤ) (given : List State) (k : ℕ) (out : List ℕ) (states : List State) : Type 0 where
-  pub written : take (4 * k) out ≡ take (4 * k) (encodedBlock c given samples)
+  pub written : take (4 * k) out ≡ take (4 * k) (encodedMsBlock c given samples)
   pub there : (e : ℕ) → e < k → stateIn states e ≡ begunIn c given samples e
   pub others : (e : ℕ) → k ≤ e → stateIn states e ≡ stateIn given e
 
@@ -187,7 +187,7 @@ module _ {c n : ℕ} (samples : List ℤ) (given : List State) (is : Shape c n (
 
   -- its header in the block
   head-byte : (ch i v : ℕ) → ch < c → i < 4 → getD (encodedChannel (begunIn c given samples ch) (samplesIn c samples ch) .written) i 0 ≡ v
-      → getD (encodedBlock c given samples) (4 * ch + i) 0 ≡ v
+      → getD (encodedMsBlock c given samples) (4 * ch + i) 0 ≡ v
   head-byte ch i v l h e =
       let starts = begun c given samples in
       let hc : 0 < c = omega (arith, l) in
@@ -205,7 +205,7 @@ module _ {c n : ℕ} (samples : List ℤ) (given : List State) (is : Shape c n (
       → Begun c samples given (ch + 1) (four-set out (4 * ch) (bits % 256) (bits / 256) index 0) (set states ch st)
   unfolding encodedChannel
   begun-turn ch out states bits index st l size some bits-is index-is st-is b =
-      let xs = encodedBlock c given samples in
+      let xs = encodedMsBlock c given samples in
       let long : length xs ≡ n = block-length samples is (begun c given samples) in
       let bits-own = ap bitsOf (first-sample ch l) ∙ sym bits-is in
       let index-own = sym (index-is ∙ ap (λ (s : State). s .index) (b .others ch (omega arith))) in
@@ -230,6 +230,6 @@ module _ {c n : ℕ} (samples : List ℤ) (given : List State) (is : Shape c n (
       }
 
   pub begun-all : (out : List ℕ) (states : List State) → length states ≡ most → Begun c samples given c out states
-      → (states ≡ begun c given samples) × (take (4 * c) out ≡ take (4 * c) (encodedBlock c given samples))
+      → (states ≡ begun c given samples) × (take (4 * c) out ≡ take (4 * c) (encodedMsBlock c given samples))
   unfolding begun
   begun-all out states some b = (each-is c given (begunIn c given samples) states some (b .there) (b .others), b .written)

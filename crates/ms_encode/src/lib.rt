@@ -4,15 +4,18 @@ use adpcm_ima::IMA_STEP_TABLE;
 use ms_layout::MOST;
 use ms_layout::refusal;
 use num::bits_of;
+use num::high_half;
 use num::lesser;
+use num::low_half;
 use num::pack;
 ghost use mathlib.Core.Path.{_≡_};
 ghost use mathlib.Core.List.{map};
 ghost use Prim.Native.Nat.{_*_};
 ghost use lib.ListN.{length, take};
+ghost use Rattle.num.specs.Outcome.{outcome};
 ghost use Rattle.adpcm_ima.specs.View.{stateOf};
-ghost use Rattle.ms_block.specs.Block.{begun, blockFrom, statesFrom, encodedBlock};
-ghost use Rattle.ms_block.specs.Call.{answered, encodeBlock};
+ghost use Rattle.ms_block.specs.Block.{begun, blockFrom, statesFrom, encodedMsBlock};
+ghost use Rattle.ms_block.specs.Call.{encodeMs};
 ghost use Rattle.ms_block.specs.Sizes.{Taken};
 
 // `refusal` is 0 for done. A refusal hands the states back as they came, and leaves the buffer alone.
@@ -27,7 +30,7 @@ pub fn encode_adpcm_ima_ms(
     states: [AdpcmImaState; MOST],
     out_buf: &mut [u8],
 ) -> Answer
-    ensures { λ r. ⌜ answered (r .refusal) (map stateOf (r .states)) (now («out_buf» .exit)) ≡ encodeBlock channels (now (samples .entry)) (map stateOf states) (now («out_buf» .entry)) ⌝ }
+    ensures { λ r. ⌜ outcome (r .refusal) (map stateOf (r .states)) (now («out_buf» .exit)) ≡ encodeMs channels (now (samples .entry)) (map stateOf states) (now («out_buf» .entry)) ⌝ }
 {
     let c = channels as usize;
     let number = refusal(c, out_buf.len(), samples.len());
@@ -54,7 +57,7 @@ fn heads(
     out_buf: &mut [u8],
 ) -> [AdpcmImaState; MOST]
     requires { ⌜ Taken c (length (now «out_buf»)) (length (now samples)) ⌝ }
-    ensures { λ r. ⌜ (map stateOf r ≡ begun c (map stateOf given) (now (samples .entry))) × (take (4 * c) (now («out_buf» .exit)) ≡ take (4 * c) (encodedBlock c (map stateOf given) (now (samples .entry)))) ⌝ }
+    ensures { λ r. ⌜ (map stateOf r ≡ begun c (map stateOf given) (now (samples .entry))) × (take (4 * c) (now («out_buf» .exit)) ≡ take (4 * c) (encodedMsBlock c (map stateOf given) (now (samples .entry)))) ⌝ }
 {
     let mut states = given;
     let mut ch = 0;
@@ -63,8 +66,8 @@ fn heads(
         let state = states[ch];
         let index = state.step_index;
         let bits = bits_of(first);
-        out_buf[4 * ch] = (bits % 256) as u8;
-        out_buf[4 * ch + 1] = (bits / 256) as u8;
+        out_buf[4 * ch] = low_half(bits);
+        out_buf[4 * ch + 1] = high_half(bits);
         out_buf[4 * ch + 2] = index;
         out_buf[4 * ch + 3] = 0;
         states[ch] = state.reloaded(first, index);

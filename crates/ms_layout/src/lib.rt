@@ -9,14 +9,14 @@ ghost use Prim.Native.Nat.{_*_, _%_, _≤_, min};
 ghost use lib.Dec.{eqb};
 ghost use Rattle.adpcm_ima.specs.View.{stateOf};
 ghost use Rattle.ms_block.specs.Header.{headed};
-ghost use Rattle.ms_block.specs.Sizes.{most, sized, samplesOf, refusalOf, repackRefusal};
+ghost use Rattle.ms_block.specs.Sizes.{most, sized, samplesOf, msRefusal, repackRefusal};
 
 // The most channels that a block has.
 pub const MOST: usize = 2;
 
 // 0 for done, 1 for a channel number that is not taken, and then 2 for lengths that are not.
 pub fn refusal(channels: usize, bytes: usize, samples: usize) -> u8
-    ensures { λ r. ⌜ r ≡ refusalOf channels bytes samples ⌝ }
+    ensures { λ r. ⌜ r ≡ msRefusal channels bytes samples ⌝ }
 {
     if channels < 1 {
         return 1;
@@ -38,7 +38,7 @@ fn fits(c: usize, bytes: usize, samples: usize) -> bool
     if 65535 < bytes {
         return false;
     }
-    if even(c, bytes) {
+    if may_end(c, bytes) {
         samples == 2 * (bytes - 4 * c) + c
     } else {
         false
@@ -46,7 +46,7 @@ fn fits(c: usize, bytes: usize, samples: usize) -> bool
 }
 
 // A block of one channel may end anywhere, and any other at the end of a group.
-fn even(c: usize, bytes: usize) -> bool
+fn may_end(c: usize, bytes: usize) -> bool
     requires { ⌜ (1 ≤ c) × (c ≤ most) ⌝ }
     ensures { λ r. ⌜ r ≡ (eqb c 1 || eqb (bytes % (4 * c)) 0) ⌝ }
 {

@@ -13,12 +13,12 @@ use Rattle.ima_nibble.specs.Series.{Within, predictors, nibblesOf, packed}
 use Rattle.ima_nibble.proofs.Bounds.{bits-in}
 use Rattle.ima_nibble.proofs.Rising.{step-within}
 use Rattle.ima_nibble.proofs.Series.{decoded-within as nibbles-within, encodes-again}
-use Rattle.ms_block.specs.Header.{header, headOf}
+use Rattle.ms_block.specs.Header.{msHeader, headOf}
 use Rattle.ms_block.specs.Sizes.{samplesOf}
 use Rattle.ms_block.specs.Weave.{woven}
 use Rattle.ms_block.proofs.Sizes.{Shape}
 use Rattle.ms_block.proofs.Weave.{woven-length, woven-same, rewoven}
-use Rattle.ms_block.specs.Block.{decodedChannel, encodedChannel, bytesIn, decodedBlock, begun}
+use Rattle.ms_block.specs.Block.{decodedChannel, encodedChannel, bytesIn, decodedMsBlock, begun}
 use Rattle.ms_block.proofs.Round.{read-back, channel-decoded, channel-begun, block-length, in-each, decoded-within}
 use Rattle.ms_repacked.specs.Repack.{startsOf, repacked}
 
@@ -60,7 +60,7 @@ unfolding encodedChannel
 settled k st xs many p h within =
     let ys = st .predictor ∷ predictors sixteen imaSteps st (drop 1 xs) in
     ap₂ (λ (s : State) (zs : List ℤ). encodedChannel s zs .written) (head-back st xs p h) (read-back k st xs many p)
-    ∙ ap (λ r. header st ++ packed (r .written)) (encodes-again sixteen imaSteps (λ s. omega (arith, step-within s)) st (drop 1 xs) p (rest-in xs within))
+    ∙ ap (λ r. msHeader st ++ packed (r .written)) (encodes-again sixteen imaSteps (λ s. omega (arith, step-within s)) st (drop 1 xs) p (rest-in xs within))
 
 -- ---- all channels
 
@@ -74,12 +74,12 @@ same-channels {c} xs ys is long same =
     ∙ rewoven 4 c (omega arith) hc 0 ys (rw long (is .even))
 
 -- every sample of a block
-pub block-in : (c : ℕ) (block : List ℕ) → Within sixteen (decodedBlock c block)
+pub block-in : (c : ℕ) (block : List ℕ) → Within sixteen (decodedMsBlock c block)
 block-in c block = decoded-within c block (λ e. samples-in (bytesIn c block e))
 
 module _ {c m : ℕ} (block : List ℕ) (is : Shape c (length block) m) where
-  pub samples-shape : Shape c (length block) (length (decodedBlock c block))
-  unfolding decodedBlock
+  pub samples-shape : Shape c (length block) (length (decodedMsBlock c block))
+  unfolding decodedMsBlock
   samples-shape =
       let hc : 0 < c = omega (arith, is .some) in
       let many = woven-length 1 c (omega arith) hc (pos 0) (samplesOf c (length block)) (λ e. decodedChannel (bytesIn c block e)) in
@@ -87,12 +87,12 @@ module _ {c m : ℕ} (block : List ℕ) (is : Shape c (length block) m) where
 
   pub repacked-length : length (repacked c block) ≡ length block
   unfolding repacked
-  repacked-length = block-length (decodedBlock c block) samples-shape (begun c (startsOf c block) (decodedBlock c block))
+  repacked-length = block-length (decodedMsBlock c block) samples-shape (begun c (startsOf c block) (decodedMsBlock c block))
 
   -- Each channel is repacked from its own bytes.
   pub channel-again : (e : ℕ) → e < c → bytesIn c (repacked c block) e ≡ again (bytesIn c block e)
   unfolding repacked decodedChannel
   channel-again e h =
-      channel-begun (decodedBlock c block) samples-shape e h (startsOf c block)
+      channel-begun (decodedMsBlock c block) samples-shape e h (startsOf c block)
       ∙ ap₂ (λ (xs : List ℤ) (st : State). encodedChannel (state (getD xs 0 (pos 0)) (st .index)) xs .written)
       (channel-decoded block is e h) (in-each c [] (λ e. headOf (bytesIn c block e)) e h (is .few))

@@ -12,15 +12,16 @@ use native.Mathlib.Omega.{arith}
 use borrow.Author.Tests.{eqb-true, eq-eqb}
 use borrow.Table.Steps.{cases}
 use Rattle.num.proofs.Lists.{all-at, all-from, length-from}
+use Rattle.num.specs.Outcome.{Outcome, outcome}
 use Rattle.ima_nibble.specs.Step.{State, state, lowered, sixteen}
 use Rattle.ms_block.specs.Header.{headOf}
-use Rattle.ms_block.specs.Sizes.{most, channelled, sized, samplesOf, refusalOf, repackRefusal, Taken}
+use Rattle.ms_block.specs.Sizes.{most, channelled, sized, samplesOf, msRefusal, repackRefusal, Taken}
 use Rattle.ms_block.proofs.Sizes.{Shape, shape, passed}
-use Rattle.ms_block.specs.Block.{bytesIn, samplesIn, decodedBlock, stateIn, begunIn}
-use Rattle.ms_block.specs.Call.{decodeBlock}
+use Rattle.ms_block.specs.Block.{bytesIn, samplesIn, decodedMsBlock, stateIn, begunIn}
+use Rattle.ms_block.specs.Call.{decodeMs}
 use Rattle.ms_block.proofs.Round.{channel-begun, samples-many, samples-within, first-within, in-each}
 use Rattle.ms_block.proofs.Theorems.{own-samples-alone}
-use Rattle.ms_repacked.specs.Repack.{Repacked, startsOf, repacked, differ, answered, repackBlock}
+use Rattle.ms_repacked.specs.Repack.{startsOf, repacked, anyChange, repackMs}
 use Rattle.ms_repacked.specs.Written.{Written, indexIn, SameIndices}
 use Rattle.ms_repacked.proofs.Settled.{again, head-held, settled, same-channels, block-in, samples-shape, repacked-length, channel-again}
 use Rattle.ms_repacked.proofs.Unlike.{alike, itself}
@@ -29,7 +30,7 @@ use Rattle.ms_repacked.proofs.Unlike.{alike, itself}
 
 -- a block that is repacked is one that the decoder takes, and the second buffer is as long
 pub allowed : (c n m : ℕ) → repackRefusal c n m ≡ 0 → Taken c n (samplesOf c n) × (m ≡ n)
-unfolding repackRefusal refusalOf
+unfolding repackRefusal msRefusal
 allowed c n m t =
     let (channels, lengths) = passed (channelled c) (sized c n && eqb m n) t in
     let (size, long) = and-eq-true-iff (sized c n) (eqb m n) .0 lengths in
@@ -48,7 +49,7 @@ unfolding repacked
 by-repacking c m block is taken =
     let many = samples-shape block is .fits ∙ sym (is .fits) in
     record {
-      samples = decodedBlock c block;
+      samples = decodedMsBlock c block;
       states = startsOf c block;
       within = block-in c block;
       channels = length-from _ most 0;
@@ -74,7 +75,7 @@ as-written c block w =
 
 -- Two such blocks with the same header indices are encoded alike from the same samples.
 as-decoded : (c m : ℕ) (block other : List ℕ) → Shape c (length block) m → Taken c (length block) m → length other ≡ length block
-    → SameIndices c block other → decodedBlock c block ≡ decodedBlock c other → repacked c block ≡ repacked c other
+    → SameIndices c block other → decodedMsBlock c block ≡ decodedMsBlock c other → repacked c block ≡ repacked c other
 unfolding repacked
 as-decoded c m block other is taken long indices same =
     let many = samples-shape block is .fits ∙ sym (is .fits) in
@@ -82,15 +83,15 @@ as-decoded c m block other is taken long indices same =
     same-channels {c = c} {m = m} (repacked c block) (repacked c other) (rw (repacked-length block is) is)
     (repacked-length other is′ ∙ long ∙ sym (repacked-length block is))
     (λ e h.
-    own-samples-alone c (length block) (decodedBlock c block) (decodedBlock c other) (startsOf c block) (startsOf c other)
+    own-samples-alone c (length block) (decodedMsBlock c block) (decodedMsBlock c other) (startsOf c block) (startsOf c other)
     (rw many taken) (ap length (sym same)) e h (ap (λ (xs : List ℤ). samplesIn c xs e) same)
     (start-is c block e h (is .few) ∙ ap (lowered sixteen) (indices e h) ∙ sym (start-is c other e h (is .few))))
 
 -- ---- of the calls
 
 module _ (c : ℕ) (block out : List ℕ) (taken : repackRefusal c (length block) (length out) ≡ 0) where
-  abbrev once : Repacked
-  once = repackBlock c block out
+  abbrev once : Outcome Bool (List ℕ)
+  once = repackMs c block out
 
   decodes : Taken c (length block) (samplesOf c (length block))
   decodes = allowed c (length block) (length out) taken .0
@@ -98,12 +99,12 @@ module _ (c : ℕ) (block out : List ℕ) (taken : repackRefusal c (length block
   is : Shape c (length block) (samplesOf c (length block))
   is = shape c (length block) (samplesOf c (length block)) decodes
 
-  once-is : once ≡ answered 0 (differ block (repacked c block)) (repacked c block)
-  unfolding repackBlock
+  once-is : once ≡ outcome 0 (anyChange block (repacked c block)) (repacked c block)
+  unfolding repackMs
   once-is = rw taken refl
 
   -- It also says whether any byte changed.
-  pub says : (once .changed ≡ false) ↔ (once .buffer ≡ block)
+  pub says : (once .back ≡ false) ↔ (once .buffer ≡ block)
   says = rw once-is (
     λ t. sym (alike block (repacked c block) (sym (repacked-length block is)) t),
     λ e. rw e (itself block),
@@ -117,19 +118,19 @@ module _ (c : ℕ) (block out : List ℕ) (taken : repackRefusal c (length block
   )
 
   -- twice equals once, and the second time says that no byte changed.
-  pub twice : (back : List ℕ) → length back ≡ length out → repackBlock c (once .buffer) back ≡ answered 0 false (once .buffer)
-  unfolding repackBlock
+  pub twice : (back : List ℕ) → length back ≡ length out → repackMs c (once .buffer) back ≡ outcome 0 false (once .buffer)
+  unfolding repackMs
   twice back long =
       let new = repacked c block in
       let size = repacked-length block is in
       let rests = as-written c new (by-repacking c (samplesOf c (length block)) block is decodes) in
-      rw (once-is, size, long, taken, rests) (ap (λ (b : Bool). answered 0 b new) (itself new))
+      rw (once-is, size, long, taken, rests) (ap (λ (b : Bool). outcome 0 b new) (itself new))
 
 -- Two different such blocks, alike in length, channels and header indices, never decode alike.
 pub never-alike : (c : ℕ) (block other : List ℕ) → Written c block → Written c other → length other ≡ length block → SameIndices c block other
     → (block ≡ other → ⊥) → (before after : List ℤ) → Taken c (length block) (length before) → Taken c (length other) (length after)
-    → decodeBlock c block before .buffer ≡ decodeBlock c other after .buffer → ⊥
-unfolding decodeBlock
+    → decodeMs c block before .buffer ≡ decodeMs c other after .buffer → ⊥
+unfolding decodeMs
 never-alike c block other w v long indices apart before after taken taken′ same =
-    let decoded : decodedBlock c block ≡ decodedBlock c other = rw (taken, taken′) at same in
+    let decoded : decodedMsBlock c block ≡ decodedMsBlock c other = rw (taken, taken′) at same in
     apart (sym (as-written c block w) ∙ as-decoded c (length before) block other (shape c (length block) (length before) taken) taken long indices decoded ∙ as-written c other v)

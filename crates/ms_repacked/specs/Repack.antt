@@ -1,13 +1,14 @@
 -- Repacking an MS block: what the call answers, and what its buffer holds at the end. Assumes nothing.
-use mathlib.Core.Bool.{Bool, false, not, cond, _||_}
+use mathlib.Core.Bool.{Bool, false, not, _||_}
 use mathlib.Core.List.{List, [], _∷_}
 use Prim.Native.Nat.{ℕ}
 use lib.Dec.{eqb}
 use lib.ListN.{length}
+use Rattle.num.specs.Outcome.{Outcome, outcomeBy}
 use Rattle.ima_nibble.specs.Step.{State}
 use Rattle.ms_block.specs.Header.{headOf}
 use Rattle.ms_block.specs.Sizes.{repackRefusal}
-use Rattle.ms_block.specs.Block.{bytesIn, decodedBlock, encodedBlock, each}
+use Rattle.ms_block.specs.Block.{bytesIn, decodedMsBlock, encodedMsBlock, each}
 
 -- Its header's indices, each above 88 taken as 88, which is what a decoder starts from.
 abbrev pub startsOf : ℕ → List ℕ → List State
@@ -15,26 +16,16 @@ startsOf c block = each c [] (λ e. headOf (bytesIn c block e))
 
 -- Decode it, encode the samples from its header's indices.
 unfoldable pub repacked : ℕ → List ℕ → List ℕ
-repacked c block = encodedBlock c (startsOf c block) (decodedBlock c block)
+repacked c block = encodedMsBlock c (startsOf c block) (decodedMsBlock c block)
 
 -- Whether any byte changed, of two lists of equal length.
-unfoldable pub differ : List ℕ → List ℕ → Bool
-differ [] ys = false
-differ (x ∷ xs) [] = false
-differ (x ∷ xs) (y ∷ ys) = not (eqb x y) || differ xs ys
+unfoldable pub anyChange : List ℕ → List ℕ → Bool
+anyChange [] ys = false
+anyChange (x ∷ xs) [] = false
+anyChange (x ∷ xs) (y ∷ ys) = not (eqb x y) || anyChange xs ys
 
--- What the call returns and leaves: the number, whether any byte changed, and what the second buffer holds at the end.
-pub record Repacked : Type 0 where
-  pub refusal : ℕ
-  pub changed : Bool
-  pub buffer : List ℕ
-
-abbrev pub answered : ℕ → Bool → List ℕ → Repacked
-answered number changed bytes = record { refusal = number; changed = changed; buffer = bytes }
-
--- 0, done. Any other number: only that, the buffer untouched.
-unfoldable pub repackBlock : ℕ → List ℕ → List ℕ → Repacked
-repackBlock c block out =
-    let number = repackRefusal c (length block) (length out) in
+-- What comes back is whether any byte changed; none does where the call refuses.
+unfoldable pub repackMs : ℕ → List ℕ → List ℕ → Outcome Bool (List ℕ)
+repackMs c block out =
     let new = repacked c block in
-    cond (eqb number 0) (answered 0 (differ block new) new) (answered number false out)
+    outcomeBy (repackRefusal c (length block) (length out)) (anyChange block new, new) (false, out)

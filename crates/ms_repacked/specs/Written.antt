@@ -8,7 +8,7 @@ use Rattle.num.specs.Lists.{All}
 use Rattle.ima_nibble.specs.Step.{State, sixteen}
 use Rattle.ima_nibble.specs.Series.{Within}
 use Rattle.ms_block.specs.Sizes.{most, Taken}
-use Rattle.ms_block.specs.Block.{bytesIn, encodedBlock}
+use Rattle.ms_block.specs.Block.{bytesIn, encodedMsBlock}
 
 -- There are samples, of 16 bits, and starting indices of 0 to 88 from which the encoder writes the block, in a call that it takes.
 pub record Written (c : ℕ) (block : List ℕ) : Type 0 where
@@ -18,7 +18,7 @@ pub record Written (c : ℕ) (block : List ℕ) : Type 0 where
   pub channels : length states ≡ most
   pub indices : All (λ st. st .index ≤ 88) states
   pub taken : Taken c (length block) (length samples)
-  pub writes : encodedBlock c states samples ≡ block
+  pub writes : encodedMsBlock c states samples ≡ block
 
 -- The index in the header of channel e, as it stands there.
 abbrev pub indexIn : ℕ → List ℕ → ℕ → ℕ

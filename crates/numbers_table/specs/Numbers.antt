@@ -5,11 +5,12 @@ use mathlib.Core.Bool.{false}
 use mathlib.Core.List.{List, [], _∷_}
 use Prim.Native.Nat.{ℕ}
 use lib.IntN.{ℤ, pos, negℤ}
+use Rattle.num.specs.Outcome.{outcome}
 use Rattle.g711.specs.Law.{mu-law, A-law, sampleOf, codeOf}
 use Rattle.ima_nibble.specs.Step.{State, state, sixteen, stepped, emitted}
 use Rattle.ima_nibble.specs.Table.{imaSteps}
-use Rattle.ms_block.specs.Call
-use Rattle.ms_repacked.specs.Repack
+use Rattle.ms_block.specs.Call.{decodeMs}
+use Rattle.ms_repacked.specs.Repack.{repackMs}
 
 -- ---- Tables
 
@@ -70,8 +71,8 @@ numbers =
     -- encode (32758,0): 32767 gives 5 and (32766,4).
     encode (state (pos 32758) 0) (pos 32767) gives (5, state (pos 32766) 4) ∷
     -- mono `00 00 00 00 17` decodes to 0, 11, 17 and repacks to itself.
-    Call.decodeBlock 1 mono samples gives Call.answered 0 [] (pos 0 ∷ pos 11 ∷ pos 17 ∷ []) ∷
-    Repack.repackBlock 1 mono bytes gives Repack.answered 0 false mono ∷
+    decodeMs 1 mono samples gives outcome 0 tt (pos 0 ∷ pos 11 ∷ pos 17 ∷ []) ∷
+    repackMs 1 mono bytes gives outcome 0 false mono ∷
     -- mu-law 0x7f decodes to 0, and 0 encodes to 0xff. A-law 0xd5 decodes to 8.
     sampleOf mu-law 0x7f gives pos 0 ∷
     codeOf mu-law (pos 0) gives 0xff ∷

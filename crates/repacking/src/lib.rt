@@ -5,17 +5,20 @@ use adpcm_ima::IMA_STEP_TABLE;
 use ms_layout::head;
 use ms_layout::repack_refusal;
 use num::bits_of;
+use num::high_half;
 use num::high_nibble;
+use num::low_half;
 use num::low_nibble;
 use num::pack;
 ghost use mathlib.Core.Path.{_≡_};
 ghost use Prim.Native.Nat.{_+_, _<_};
 ghost use lib.ListN.{length};
+ghost use Rattle.num.specs.Outcome.{outcome};
 ghost use Rattle.adpcm_ima.specs.View.{stateOf};
 ghost use Rattle.ms_block.specs.Header.{headOf};
 ghost use Rattle.ms_block.specs.Block.{bytesIn};
 ghost use Rattle.ms_repacked.specs.Private.{Alike, Upto};
-ghost use Rattle.ms_repacked.specs.Repack.{repacked, differ, answered, repackBlock};
+ghost use Rattle.ms_repacked.specs.Repack.{repacked, anyChange, repackMs};
 
 // `refusal` is 0 for done. A refusal leaves the buffer alone, and no byte changed.
 pub struct Answer {
@@ -24,14 +27,14 @@ pub struct Answer {
 }
 
 pub fn repack_adpcm_ima_ms(channels: u8, block: &[u8], out: &mut [u8]) -> Answer
-    ensures { λ r. ⌜ answered (r .refusal) (r .changed) (now (out .exit)) ≡ repackBlock channels (now (block .entry)) (now (out .entry)) ⌝ }
+    ensures { λ r. ⌜ outcome (r .refusal) (r .changed) (now (out .exit)) ≡ repackMs channels (now (block .entry)) (now (out .entry)) ⌝ }
 {
     let number = repack_refusal(channels, block.len(), out.len());
     if number == 0 {
         all(channels as usize, block, out);
         Answer {
             refusal: 0,
-            changed: differs(block, out),
+            changed: any_change(block, out),
         }
     } else {
         Answer {
@@ -41,9 +44,9 @@ pub fn repack_adpcm_ima_ms(channels: u8, block: &[u8], out: &mut [u8]) -> Answer
     }
 }
 
-fn differs(block: &[u8], out: &[u8]) -> bool
+fn any_change(block: &[u8], out: &[u8]) -> bool
     requires { ⌜ length (now block) ≡ length (now out) ⌝ }
-    ensures { λ r. ⌜ r ≡ differ (now (block .entry)) (now (out .entry)) ⌝ }
+    ensures { λ r. ⌜ r ≡ anyChange (now (block .entry)) (now (out .entry)) ⌝ }
 {
     let mut i = 0;
     while i < block.len() {
@@ -97,8 +100,8 @@ fn header(c: usize, ch: usize, block: &[u8], out: &mut [u8]) -> AdpcmImaState
     let at = 4 * ch;
     let state = head(block[at], block[at + 1], block[at + 2]);
     let bits = bits_of(state.predictor);
-    out[at] = (bits % 256) as u8;
-    out[at + 1] = (bits / 256) as u8;
+    out[at] = low_half(bits);
+    out[at + 1] = high_half(bits);
     out[at + 2] = state.step_index;
     out[at + 3] = 0;
     state

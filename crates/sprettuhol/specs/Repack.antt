@@ -3,7 +3,7 @@ use mathlib.Core.Bool.{Bool, cond}
 use mathlib.Core.List.{List}
 use Prim.Native.Nat.{ℕ}
 use lib.Dec.{eqb}
-use Rattle.ms_repacked.specs.Repack.{repackBlock}
+use Rattle.ms_repacked.specs.Repack.{repackMs}
 
 pub record Numbered : Type 0 where
   pub refusal : ℕ
@@ -19,5 +19,5 @@ numberOf changed = cond changed 1 0
 
 unfoldable pub repackNumbers : ℕ → List ℕ → List ℕ → ℕ → Numbered
 repackNumbers c block out before =
-    let r = repackBlock c block out in
+    let r = repackMs c block out in
     numbered (r .refusal) (cond (eqb (r .refusal) 0) (numberOf (r .changed)) before) (r .buffer)

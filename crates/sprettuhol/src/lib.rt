@@ -15,7 +15,7 @@ ghost use mathlib.Core.Path.{_≡_};
 ghost use mathlib.Core.List.{[]};
 ghost use Rattle.ima_nibble.specs.Step.{state, sixteen, stepped, emitted};
 ghost use Rattle.ima_nibble.specs.Table.{imaSteps};
-ghost use Rattle.ima4_block.specs.Call.{answered, decodeRun, encodeRun};
+ghost use Rattle.ima4_block.specs.Call.{answered, decodeIma4Run, encodeIma4Run};
 ghost use Rattle.loss.specs.Loss.{placeOf};
 ghost use Rattle.ms_block.specs.Call as Ms;
 ghost use Rattle.sprettuhol.specs.Loss.{orMax, stored, lossCall};
@@ -101,7 +101,7 @@ pub extern "C" fn spr_decode_ima4(
     step_index: &mut u8,
     samples: &mut [i16],
 ) -> u8
-    ensures { λ r. ⌜ answered r (state (now (predictor .exit)) (now («step_index» .exit))) (now (samples .exit)) ≡ decodeRun (state (now (predictor .entry)) (now («step_index» .entry))) (now (bytes .entry)) (now (samples .entry)) ⌝ }
+    ensures { λ r. ⌜ answered r (state (now (predictor .exit)) (now («step_index» .exit))) (now (samples .exit)) ≡ decodeIma4Run (state (now (predictor .entry)) (now («step_index» .entry))) (now (bytes .entry)) (now (samples .entry)) ⌝ }
 {
     let before = AdpcmImaState {
         predictor: *predictor,
@@ -121,7 +121,7 @@ pub extern "C" fn spr_encode_ima4(
     step_index: &mut u8,
     bytes: &mut [u8],
 ) -> u8
-    ensures { λ r. ⌜ answered r (state (now (predictor .exit)) (now («step_index» .exit))) (now (bytes .exit)) ≡ encodeRun (state (now (predictor .entry)) (now («step_index» .entry))) (now (samples .entry)) (now (bytes .entry)) ⌝ }
+    ensures { λ r. ⌜ answered r (state (now (predictor .exit)) (now («step_index» .exit))) (now (bytes .exit)) ≡ encodeIma4Run (state (now (predictor .entry)) (now («step_index» .entry))) (now (samples .entry)) (now (bytes .entry)) ⌝ }
 {
     let before = AdpcmImaState {
         predictor: *predictor,
@@ -137,7 +137,7 @@ pub extern "C" fn spr_encode_ima4(
 // One MS block. Channel numbers that are not taken are refused by 1, and then lengths by 2; nothing is written then.
 #[no_mangle]
 pub extern "C" fn spr_decode_ms(channels: u8, block: &[u8], samples: &mut [i16]) -> u8
-    ensures { λ r. ⌜ Ms.answered r [] (now (samples .exit)) ≡ Ms.decodeBlock channels (now (block .entry)) (now (samples .entry)) ⌝ }
+    ensures { λ r. ⌜ Ms.answered r [] (now (samples .exit)) ≡ Ms.decodeMs channels (now (block .entry)) (now (samples .entry)) ⌝ }
 {
     decode_adpcm_ima_ms(channels, block, samples)
 }
@@ -151,7 +151,7 @@ pub extern "C" fn spr_encode_ms(
     step_indices: &mut [u8; MOST],
     block: &mut [u8],
 ) -> u8
-    ensures { λ r. ⌜ Ms.answered r (statesOf (now (predictors .exit)) (now («step_indices» .exit))) (now (block .exit)) ≡ Ms.encodeBlock channels (now (samples .entry)) (statesOf (now (predictors .entry)) (now («step_indices» .entry))) (now (block .entry)) ⌝ }
+    ensures { λ r. ⌜ Ms.answered r (statesOf (now (predictors .exit)) (now («step_indices» .exit))) (now (block .exit)) ≡ Ms.encodeMs channels (now (samples .entry)) (statesOf (now (predictors .entry)) (now («step_indices» .entry))) (now (block .entry)) ⌝ }
 {
     let before = states_of(*predictors, *step_indices);
     let encoded_block = encode_adpcm_ima_ms(channels, samples, before, block);

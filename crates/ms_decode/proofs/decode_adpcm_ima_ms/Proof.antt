@@ -1,32 +1,32 @@
 -- `ms_decode::decode_adpcm_ima_ms` meets its contract: a call that is not refused reads the headers, and then the groups. Assumes nothing.
 use mathlib.Core.Path.{_≡_, refl, sym, ap, _∙_}
-use mathlib.Core.List.{[]}
 use borrow.Author.Needs.{needs}
 use borrow.Author.Tests.{ne-eqb}
 use lib.ListN.{length}
-use Rattle.ms_block.specs.Sizes.{refusalOf}
-use Rattle.ms_block.specs.Call.{answered, decodeBlock}
+use Rattle.num.specs.Outcome.{outcome}
+use Rattle.ms_block.specs.Sizes.{msRefusal}
+use Rattle.ms_block.specs.Call.{decodeMs}
 use Rattle.ms_decode.proofs.decode_adpcm_ima_ms.Statement.{statement}
 use Rattle.ms_decode.proofs.decode_adpcm_ima_ms.Tie as tie
 
 -- a call that is not refused
-taken : (c : tie.Then1) → let a = c .before .before .before .args in refusalOf (a .channels) (length (a .buf .now)) (length (a .out-samples .now)) ≡ 0
+taken : (c : tie.Then1) → let a = c .before .before .before .args in msRefusal (a .channels) (length (a .buf .now)) (length (a .out-samples .now)) ≡ 0
 taken c = sym (c .before .refusal .ensures) ∙ c .if1 .taken
 
 groups-requires : tie.Need-groups-requires
 groups-requires c κs =
     let t = c .before .before .before .before in
     let a = t .before .before .before .args in
-    (ap (refusalOf (a .channels) (length (a .buf .now))) (c .before .out-samples .given) ∙ taken t, c .before .before .heads .ensures)
+    (ap (msRefusal (a .channels) (length (a .buf .now))) (c .before .out-samples .given) ∙ taken t, c .before .before .heads .ensures)
 
 returns : tie.Need-returns
-unfolding decodeBlock
+unfolding decodeMs
 returns c =
     let t = c .before .before .before .before .before .before in
-    rw (t .if1 .taken, taken t) (ap (answered 0 []) (c .before .groups .ensures))
+    rw (t .if1 .taken, taken t) (ap (outcome 0 tt) (c .before .groups .ensures))
 
 returns-2 : tie.Need-returns-2
-unfolding decodeBlock
+unfolding decodeMs
 returns-2 c =
     let a = c .before .before .before .args in
     let number = c .before .refusal in

@@ -28,10 +28,10 @@ returns-3 c =
     let s = c .before .before in
     let a = s .before .before .args in
     let sum : 2 * (a .bytes - 4 * a .c) + a .c ≡ samplesOf (a .c) (a .bytes) = omega (arith, s .before .if1 .left) in
-    rw (enough (s .before), few s, sym (c .before .even .ensures) ∙ c .if3 .taken) (ap (eqb (a .samples)) sum)
+    rw (enough (s .before), few s, sym (c .before .may-end .ensures) ∙ c .if3 .taken) (ap (eqb (a .samples)) sum)
 
 returns-4 : tie.Need-returns-4
-returns-4 c = rw (enough (c .before .before .before), few (c .before .before), sym (c .before .even .ensures) ∙ c .if3 .left) refl
+returns-4 c = rw (enough (c .before .before .before), few (c .before .before), sym (c .before .may-end .ensures) ∙ c .if3 .left) refl
 
 pub fits-spec : {M : Type 1} → statement M
 fits-spec =

@@ -4,7 +4,7 @@ use mathlib.Core.Bool.{cond}
 use lib.Dec.{eqb}
 use borrow.Author.Needs.{needs}
 use borrow.Author.Tests.{eq-eqb, ne-eqb}
-use Rattle.ms_block.specs.Sizes.{refusalOf, repackRefusal}
+use Rattle.ms_block.specs.Sizes.{msRefusal, repackRefusal}
 use Rattle.ms_block.proofs.Lengths.{refused, fits}
 use Rattle.ms_layout.proofs.repack_refusal.Statement.{statement}
 use Rattle.ms_layout.proofs.repack_refusal.Tie as tie
@@ -13,14 +13,14 @@ returns : tie.Need-returns
 returns c =
     let s = c .before in
     let a = s .before .before .args in
-    refused (a .channels) (a .bytes) (a .others) (s .refusal .result) (s .refusal .ensures ∙ ap (refusalOf (a .channels) (a .bytes)) (s .before .samples .ensures)) (c .if1 .taken)
+    refused (a .channels) (a .bytes) (a .others) (s .refusal .result) (s .refusal .ensures ∙ ap (msRefusal (a .channels) (a .bytes)) (s .before .samples .ensures)) (c .if1 .taken)
 
 -- behind the first test
 second : (c : tie.Else1) → let a = c .before .before .before .args in repackRefusal (a .channels) (a .bytes) (a .others) ≡ cond (eqb (a .others) (a .bytes)) 0 2
 second c =
     let s = c .before in
     let a = s .before .before .args in
-    fits (a .channels) (a .bytes) (a .others) (s .refusal .result) (s .refusal .ensures ∙ ap (refusalOf (a .channels) (a .bytes)) (s .before .samples .ensures)) (c .if1 .left)
+    fits (a .channels) (a .bytes) (a .others) (s .refusal .result) (s .refusal .ensures ∙ ap (msRefusal (a .channels) (a .bytes)) (s .before .samples .ensures)) (c .if1 .left)
 
 returns-2 : tie.Need-returns-2
 returns-2 c = let a = c .before .before .before .before .args in sym (second (c .before) ∙ rw (eq-eqb (a .others) (a .bytes) (c .if2 .taken)) refl)

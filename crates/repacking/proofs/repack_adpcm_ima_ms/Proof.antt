@@ -6,9 +6,10 @@ use Prim.Native.Nat.{ℕ}
 use lib.ListN.{length}
 use borrow.Author.Needs.{needs}
 use borrow.Author.Tests.{ne-eqb}
+use Rattle.num.specs.Outcome.{outcome}
 use Rattle.ms_block.specs.Sizes.{repackRefusal}
 use Rattle.ms_repacked.specs.Private.{Alike}
-use Rattle.ms_repacked.specs.Repack.{differ, answered, repackBlock}
+use Rattle.ms_repacked.specs.Repack.{anyChange, repackMs}
 use Rattle.ms_repacked.proofs.Theorems.{allowed}
 use Rattle.repacking.proofs.repack_adpcm_ima_ms.Statement.{statement}
 use Rattle.repacking.proofs.repack_adpcm_ima_ms.Tie as tie
@@ -26,30 +27,30 @@ taken c =
 all-requires : tie.Need-all-requires
 all-requires c κs = taken (c .before)
 
-differs-requires : tie.Need-differs-requires
-differs-requires c κs =
+any-change-requires : tie.Need-any-change-requires
+any-change-requires c κs =
     let read = c .before .before in
     let s = read .before .before .before in
     sym (read .out .given ∙ taken s .1)
 
 returns : tie.Need-returns
-unfolding repackBlock
+unfolding repackMs
 returns c =
     let read = c .before .before .before in
     let s = read .before .before .before in
     let a = start (s .before) .args in
     let is = read .before .all .ensures in
-    rw (sym (s .before .repack-refusal .ensures) ∙ s .if1 .taken) (ap₂ (λ (b : Bool) (bs : List ℕ). answered 0 b bs) (c .differs .ensures ∙ ap (differ (a .block .now)) is) is)
+    rw (sym (s .before .repack-refusal .ensures) ∙ s .if1 .taken) (ap₂ (λ (b : Bool) (bs : List ℕ). outcome 0 b bs) (c .any-change .ensures ∙ ap (anyChange (a .block .now)) is) is)
 
 returns-2 : tie.Need-returns-2
-unfolding repackBlock
+unfolding repackMs
 returns-2 c =
     let a = start (c .before) .args in
     let is = c .before .repack-refusal .ensures in
     let other : repackRefusal (a .channels) (length (a .block .now)) (length (a .out .now)) ≡ 0 → ⊥ = λ e. c .if1 .left (is ∙ e) in
-    rw (ne-eqb (repackRefusal (a .channels) (length (a .block .now)) (length (a .out .now))) 0 other) (ap (λ (k : ℕ). answered k false (a .out .now)) is)
+    rw (ne-eqb (repackRefusal (a .channels) (length (a .block .now)) (length (a .out .now))) 0 other) (ap (λ (k : ℕ). outcome k false (a .out .now)) is)
 
 pub repack-adpcm-ima-ms-spec : {M : Type 1} → statement M
 repack-adpcm-ima-ms-spec =
     tie.close
-    (tie.spec (λ c κs. search needs) all-requires differs-requires (λ c. search needs) returns returns-2)
+    (tie.spec (λ c κs. search needs) all-requires any-change-requires (λ c. search needs) returns returns-2)

@@ -5,7 +5,7 @@ use mir.Val.{SFits}
 use mir.ValLaws.{toZ-ofZ}
 use borrow.Author.Needs.{needs}
 use Rattle.ima_nibble.specs.Step.{state}
-use Rattle.ima4_block.specs.Call.{answered, decodeRun}
+use Rattle.ima4_block.specs.Call.{answered, decodeIma4Run}
 use Rattle.sprettuhol.proofs.spr_decode_ima4.Statement.{statement}
 use Rattle.sprettuhol.proofs.spr_decode_ima4.Tie as tie
 
@@ -18,7 +18,7 @@ returns c =
     let g : SFits w16 (a .predictor .now) = search needs in
     ap (λ p. answered (r .refusal) (state p (r .state .«step_index»)) (call .last .1 .1 .0)) (toZ-ofZ w16 _ f)
     ∙ call .ensures
-    ∙ ap (λ p. decodeRun (state p (a .step-index .now)) (a .bytes .now) (a .samples .now)) (toZ-ofZ w16 _ g)
+    ∙ ap (λ p. decodeIma4Run (state p (a .step-index .now)) (a .bytes .now) (a .samples .now)) (toZ-ofZ w16 _ g)
 
 pub spr-decode-ima4-spec : {M : Type 1} → statement M
 spr-decode-ima4-spec = tie.close (tie.spec (λ c κs. search needs) (λ c. search needs) returns)

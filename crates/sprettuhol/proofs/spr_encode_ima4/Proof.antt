@@ -5,7 +5,7 @@ use mir.Val.{SFits}
 use mir.ValLaws.{toZ-ofZ}
 use borrow.Author.Needs.{needs}
 use Rattle.ima_nibble.specs.Step.{state}
-use Rattle.ima4_block.specs.Call.{answered, encodeRun}
+use Rattle.ima4_block.specs.Call.{answered, encodeIma4Run}
 use Rattle.sprettuhol.proofs.spr_encode_ima4.Statement.{statement}
 use Rattle.sprettuhol.proofs.spr_encode_ima4.Tie as tie
 
@@ -18,7 +18,7 @@ returns c =
     let g : SFits w16 (a .predictor .now) = search needs in
     ap (λ p. answered (r .refusal) (state p (r .state .«step_index»)) (call .last .1 .1 .0)) (toZ-ofZ w16 _ f)
     ∙ call .ensures
-    ∙ ap (λ p. encodeRun (state p (a .step-index .now)) (a .samples .now) (a .bytes .now)) (toZ-ofZ w16 _ g)
+    ∙ ap (λ p. encodeIma4Run (state p (a .step-index .now)) (a .samples .now) (a .bytes .now)) (toZ-ofZ w16 _ g)
 
 pub spr-encode-ima4-spec : {M : Type 1} → statement M
 spr-encode-ima4-spec = tie.close (tie.spec (λ c κs. search needs) (λ c. search needs) returns)
