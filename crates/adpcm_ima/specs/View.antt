@@ -1,5 +1,5 @@
 -- A state of the code as one of the definitions. Assumes nothing.
-use mathlib.Core.Bool.{Bool, false, cond}
+use mathlib.Core.Bool.{Bool, false, _&&_}
 use lib.Dec.{eqb}
 use lib.IntN.{ℤ, pos, negsuc}
 use Rattle.adpcm_ima.specs.declared.AdpcmImaState.{AdpcmImaState}
@@ -16,4 +16,4 @@ sameZ (negsuc a) (pos b) = false
 sameZ (negsuc a) (negsuc b) = eqb a b
 
 abbrev pub sameState : State → State → Bool
-sameState s t = cond (sameZ (s .predictor) (t .predictor)) (eqb (s .index) (t .index)) false
+sameState s t = sameZ (s .predictor) (t .predictor) && eqb (s .index) (t .index)

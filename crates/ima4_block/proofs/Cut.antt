@@ -33,9 +33,9 @@ module _ {X Y : Type 0} (block : State → List X → Done Y) (size : ℕ) where
   first n st xs ys e = rw (take-at xs ys size e, drop-at xs ys size e)
 
   -- A run of one block is the block.
-  pub one : (st : State) (xs : List X) → run block size 1 st xs ≡ block st (take size xs)
+  pub single : (st : State) (xs : List X) → run block size 1 st xs ≡ block st (take size xs)
   unfolding run
-  one st xs = let r = block st (take size xs) in ap (λ ys. done ys (r .end)) (append-nil (r .written))
+  single st xs = let r = block st (take size xs) in ap (λ ys. done ys (r .end)) (append-nil (r .written))
 
   -- A run is its first blocks, and then the others from the state handed back.
   pub cut : (n : ℕ) (xs : List X) → length xs ≡ size * n → (st : State) (m : ℕ) (ys : List X)

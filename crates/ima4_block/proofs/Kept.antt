@@ -13,7 +13,7 @@ use Rattle.num.specs.Halves.{fromBits, bitsOf}
 use Rattle.num.proofs.Shift.{shift-le}
 use Rattle.num.proofs.Within.{clamp-under, clamp-over}
 use Rattle.ima_nibble.specs.Step.{State, sixteen, In, Good}
-use Rattle.ima4_block.specs.Header.{headerBits, read, saturated, near, keeps, start}
+use Rattle.ima4_block.specs.Header.{headerBits, headerState, saturated, near, keeps, start}
 
 -- the header's predictor, and what it dropped
 abbrev top : ℤ → ℤ
@@ -37,7 +37,7 @@ near-above x r le h =
     rw (is-true (leZ (saturated (x -ℤ pos 127)) p) (clamp-under (h .above) (h .below) (x -ℤ pos 127) low .le))
     (is-true (leZ p (saturated (x +ℤ pos 127))) (clamp-over (h .above) (h .below) (x +ℤ pos 127) high .le))
 
-keeps-own : (st : State) → Good sixteen st → keeps st (read (headerBits st)) ≡ true
+keeps-own : (st : State) → Good sixteen st → keeps st (headerState (headerBits st)) ≡ true
 keeps-own st h =
     let x = st .predictor in
     let e = dropped x (h .inside) in

@@ -7,14 +7,15 @@ use native.Mathlib.Omega.{arith}
 use lib.ListN.{length, take, drop, length-drop}
 use lib.Seq.{length-take-le, take-all, take-append-add, take-append-seam}
 use borrow.Rule.Slice.PartMut.{putMid}
+use Rattle.num.specs.Outcome.{Outcome, outcome}
 use Rattle.ima_nibble.specs.Step.{State}
 use Rattle.ima_nibble.specs.Series.{Done, done, after}
-use Rattle.ima4_block.specs.Call.{Answered, answered, finished}
+use Rattle.ima4_block.specs.Call.{finished}
 use Rattle.ima4_block.specs.Run.{run}
-use Rattle.ima4_block.proofs.Cut.{one, continued}
+use Rattle.ima4_block.proofs.Cut.{single, continued}
 
 -- by a call that is `block` where it takes its lengths: `size` of what is read, and `width` of what is written
-module _ {X Y : Type 0} (block : State → List X → Done Y) (size width : ℕ) (call : State → List X → List Y → Answered Y)
+module _ {X Y : Type 0} (block : State → List X → Done Y) (size width : ℕ) (call : State → List X → List Y → Outcome State (List Y))
     (takes : (st : State) (xs : List X) (out : List Y) → length xs ≡ size → length out ≡ width → call st xs out ≡ finished (block st xs)) where
   -- the part for block i of a list that is n of them
   part : {Z : Type 0} (wide n i : ℕ) (zs : List Z) → length zs ≡ wide * n → i < n → length (take (wide * i + wide - wide * i) (drop (wide * i) zs)) ≡ wide
@@ -33,7 +34,7 @@ module _ {X Y : Type 0} (block : State → List X → Done Y) (size width : ℕ)
     none out = let e : width * 0 ≡ 0 = omega arith in rw e refl
 
     pub one-block : (n i : ℕ) (st next : State) (number : ℕ) (out ys : List Y)
-        → answered number next ys ≡ call st (take (size * i + size - size * i) (drop (size * i) xs)) (take (width * i + width - width * i) (drop (width * i) out))
+        → outcome number next ys ≡ call st (take (size * i + size - size * i) (drop (size * i) xs)) (take (width * i + width - width * i) (drop (width * i) out))
         → length ys ≡ length (take (width * i + width - width * i) (drop (width * i) out))
         → i < n
         → length xs ≡ size * n
@@ -51,8 +52,8 @@ module _ {X Y : Type 0} (block : State → List X → Done Y) (size width : ℕ)
         let whole : size * i + size - size * i ≡ size = omega arith in
         let block-is = is ∙ takes st _ _ (part size n i xs x h) (part width n i out o h) ∙ ap (λ k. finished (block st (take k here))) whole in
         ap (λ r. done r next) front
-        ∙ ap (λ (r : Answered Y). after before (done (r .buffer) (r .state))) block-is
-        ∙ ap (after before) (sym (one block size st here))
+        ∙ ap (λ (r : Outcome State (List Y)). after before (done (r .buffer) (r .back))) block-is
+        ∙ ap (after before) (sym (single block size st here))
         ∙ ap (λ (r : Done Y). after (r .written) (run block size 1 (r .end) here)) ran
         ∙ sym (continued block size i 1 st₀ xs)
 

@@ -13,12 +13,12 @@ use Rattle.ima_nibble.specs.Step.{State, state, sixteen, lowered}
 abbrev pub headerBits : State → ℕ
 headerBits st = 128 * (bitsOf (st .predictor) / 128) + st .index
 
-abbrev pub header : State → List ℕ
-header st = (headerBits st / 256) ∷ (headerBits st % 256) ∷ []
+abbrev pub ima4Header : State → List ℕ
+ima4Header st = (headerBits st / 256) ∷ (headerBits st % 256) ∷ []
 
 -- The decoder's header index is lowered to 88.
-abbrev pub read : ℕ → State
-read bits = state (fromBits (128 * (bits / 128))) (lowered sixteen (bits % 128))
+abbrev pub headerState : ℕ → State
+headerState bits = state (fromBits (128 * (bits / 128))) (lowered sixteen (bits % 128))
 
 -- Within 127 (both ends included, limits saturating).
 abbrev pub saturated : ℤ → ℤ
@@ -32,8 +32,8 @@ abbrev pub keeps : State → State → Bool
 keeps own head = eqb (own .index) (head .index) && near (own .predictor) (head .predictor)
 
 unfoldable pub start : State → ℕ → ℕ → State
-start own high low = let head = read (256 * high + low) in cond (keeps own head) own head
+start own high low = let head = headerState (256 * high + low) in cond (keeps own head) own head
 
 -- The encoder lowers its index before writing.
-abbrev pub lower : State → State
-lower st = state (st .predictor) (lowered sixteen (st .index))
+abbrev pub loweredState : State → State
+loweredState st = state (st .predictor) (lowered sixteen (st .index))

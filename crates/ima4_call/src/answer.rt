@@ -9,7 +9,7 @@ pub struct Answer {
     pub state: AdpcmImaState,
 }
 
-pub fn refused(state: AdpcmImaState) -> Answer
+pub fn refuse(state: AdpcmImaState) -> Answer
     ensures { λ r. ⌜ (r .refusal ≡ 3) × (stateOf (r .state) ≡ stateOf state) ⌝ }
 {
     Answer { refusal: 3, state }

@@ -3,6 +3,6 @@ mod answer;
 mod sizes;
 
 pub use answer::Answer;
-pub use answer::refused;
-pub use sizes::one;
-pub use sizes::some;
+pub use answer::refuse;
+pub use sizes::is_block;
+pub use sizes::is_run;

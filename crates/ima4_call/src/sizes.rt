@@ -2,15 +2,15 @@
 ghost use mathlib.Core.Path.{_≡_};
 ghost use Rattle.ima4_block.specs.Call as Call;
 
-pub fn one(bytes: usize, samples: usize) -> bool
-    ensures { λ r. ⌜ r ≡ Call.one bytes samples ⌝ }
+pub fn is_block(bytes: usize, samples: usize) -> bool
+    ensures { λ r. ⌜ r ≡ Call.isBlock bytes samples ⌝ }
 {
     if bytes == 34 { samples == 64 } else { false }
 }
 
 // 1,024 is tested first, so that no product is too large.
-pub fn some(bytes: usize, samples: usize) -> bool
-    ensures { λ r. ⌜ r ≡ Call.some bytes samples ⌝ }
+pub fn is_run(bytes: usize, samples: usize) -> bool
+    ensures { λ r. ⌜ r ≡ Call.isRun bytes samples ⌝ }
 {
     let n = bytes / 34;
     if 1024 < n {

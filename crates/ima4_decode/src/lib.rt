@@ -2,22 +2,23 @@
 use adpcm_ima::AdpcmImaState;
 use adpcm_ima::IMA_STEP_TABLE;
 use ima4_call::Answer;
-use ima4_call::one;
-use ima4_call::refused;
-use ima4_call::some;
+use ima4_call::is_block;
+use ima4_call::refuse;
+use ima4_call::is_run;
 use ima4_header::started;
 use num::high_nibble;
 use num::low_nibble;
 ghost use mathlib.Core.Path.{_≡_};
+ghost use Rattle.num.specs.Outcome.{outcome};
 ghost use Rattle.adpcm_ima.specs.View.{stateOf};
-ghost use Rattle.ima4_block.specs.Call.{answered, decodeBlock, decodeRun};
+ghost use Rattle.ima4_block.specs.Call.{decodeIma4, decodeIma4Run};
 
 // One block, 34 bytes, to 64 samples.
 pub fn decode_adpcm_ima_ima4(buf: &[u8], state: AdpcmImaState, out_samples: &mut [i16]) -> Answer
-    ensures { λ r. ⌜ answered (r .refusal) (stateOf (r .state)) (now («out_samples» .exit)) ≡ decodeBlock (stateOf state) (now (buf .entry)) (now («out_samples» .entry)) ⌝ }
+    ensures { λ r. ⌜ outcome (r .refusal) (stateOf (r .state)) (now («out_samples» .exit)) ≡ decodeIma4 (stateOf state) (now (buf .entry)) (now («out_samples» .entry)) ⌝ }
 {
-    if !one(buf.len(), out_samples.len()) {
-        return refused(state);
+    if !is_block(buf.len(), out_samples.len()) {
+        return refuse(state);
     }
     let steps = IMA_STEP_TABLE;
     let mut wide = started(state, buf[0], buf[1]).widened();
@@ -44,10 +45,10 @@ pub fn decode_adpcm_ima_ima4_run(
     state: AdpcmImaState,
     out_samples: &mut [i16],
 ) -> Answer
-    ensures { λ r. ⌜ answered (r .refusal) (stateOf (r .state)) (now («out_samples» .exit)) ≡ decodeRun (stateOf state) (now (buf .entry)) (now («out_samples» .entry)) ⌝ }
+    ensures { λ r. ⌜ outcome (r .refusal) (stateOf (r .state)) (now («out_samples» .exit)) ≡ decodeIma4Run (stateOf state) (now (buf .entry)) (now («out_samples» .entry)) ⌝ }
 {
-    if !some(buf.len(), out_samples.len()) {
-        return refused(state);
+    if !is_run(buf.len(), out_samples.len()) {
+        return refuse(state);
     }
     let n = buf.len() / 34;
     let mut next = state;

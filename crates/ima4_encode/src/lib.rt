@@ -2,28 +2,29 @@
 use adpcm_ima::AdpcmImaState;
 use adpcm_ima::IMA_STEP_TABLE;
 use ima4_call::Answer;
-use ima4_call::one;
-use ima4_call::refused;
-use ima4_call::some;
+use ima4_call::is_block;
+use ima4_call::refuse;
+use ima4_call::is_run;
 use ima4_header::header_of;
-use ima4_header::lowered;
+use ima4_header::lowered_state;
 use num::pack;
 ghost use mathlib.Core.Path.{_≡_};
+ghost use Rattle.num.specs.Outcome.{outcome};
 ghost use Rattle.adpcm_ima.specs.View.{stateOf};
-ghost use Rattle.ima4_block.specs.Call.{answered, encodeBlock, encodeRun};
+ghost use Rattle.ima4_block.specs.Call.{encodeIma4, encodeIma4Run};
 
 // 64 samples to one block, 34 bytes.
 pub fn encode_adpcm_ima_ima4(samples: &[i16], state: AdpcmImaState, out_buf: &mut [u8]) -> Answer
-    ensures { λ r. ⌜ answered (r .refusal) (stateOf (r .state)) (now («out_buf» .exit)) ≡ encodeBlock (stateOf state) (now (samples .entry)) (now («out_buf» .entry)) ⌝ }
+    ensures { λ r. ⌜ outcome (r .refusal) (stateOf (r .state)) (now («out_buf» .exit)) ≡ encodeIma4 (stateOf state) (now (samples .entry)) (now («out_buf» .entry)) ⌝ }
 {
-    if !one(out_buf.len(), samples.len()) {
-        return refused(state);
+    if !is_block(out_buf.len(), samples.len()) {
+        return refuse(state);
     }
     let header = header_of(state);
     out_buf[0] = header.high;
     out_buf[1] = header.low;
     let steps = IMA_STEP_TABLE;
-    let mut wide = lowered(state).widened();
+    let mut wide = lowered_state(state).widened();
     let mut k = 0;
     while k < 32 {
         let low = wide.coded(&steps, samples[2 * k]);
@@ -44,10 +45,10 @@ pub fn encode_adpcm_ima_ima4_run(
     state: AdpcmImaState,
     out_buf: &mut [u8],
 ) -> Answer
-    ensures { λ r. ⌜ answered (r .refusal) (stateOf (r .state)) (now («out_buf» .exit)) ≡ encodeRun (stateOf state) (now (samples .entry)) (now («out_buf» .entry)) ⌝ }
+    ensures { λ r. ⌜ outcome (r .refusal) (stateOf (r .state)) (now («out_buf» .exit)) ≡ encodeIma4Run (stateOf state) (now (samples .entry)) (now («out_buf» .entry)) ⌝ }
 {
-    if !some(out_buf.len(), samples.len()) {
-        return refused(state);
+    if !is_run(out_buf.len(), samples.len()) {
+        return refuse(state);
     }
     let n = out_buf.len() / 34;
     let mut next = state;

@@ -4,12 +4,14 @@ mod rule;
 use adpcm_ima::AdpcmImaState;
 use num::bits_of;
 use num::from_halves;
+use num::high_half;
 use num::lesser;
+use num::low_half;
 use rule::keeps;
 ghost use mathlib.Core.Path.{_≡_};
 ghost use mathlib.Core.List.{[], _∷_};
 ghost use Rattle.adpcm_ima.specs.View.{stateOf};
-ghost use Rattle.ima4_block.specs.Header.{header, start, lower};
+ghost use Rattle.ima4_block.specs.Header.{ima4Header, start, loweredState};
 
 pub struct Header {
     pub high: u8,
@@ -27,8 +29,8 @@ pub fn started(own: AdpcmImaState, high: u8, low: u8) -> AdpcmImaState
 }
 
 // The state that an encoder writes and goes on from.
-pub fn lowered(state: AdpcmImaState) -> AdpcmImaState
-    ensures { λ r. ⌜ stateOf r ≡ lower (stateOf state) ⌝ }
+pub fn lowered_state(state: AdpcmImaState) -> AdpcmImaState
+    ensures { λ r. ⌜ stateOf r ≡ loweredState (stateOf state) ⌝ }
 {
     let index = lesser(state.step_index as usize, 88);
     state.reloaded(state.predictor, index as u8)
@@ -36,12 +38,12 @@ pub fn lowered(state: AdpcmImaState) -> AdpcmImaState
 
 // Nine top bits of the predictor, seven of the lowered index.
 pub fn header_of(state: AdpcmImaState) -> Header
-    ensures { λ r. ⌜ r .high ∷ r .low ∷ [] ≡ header (lower (stateOf state)) ⌝ }
+    ensures { λ r. ⌜ r .high ∷ r .low ∷ [] ≡ ima4Header (loweredState (stateOf state)) ⌝ }
 {
     let seven = lesser(state.step_index as usize, 88);
     let bits = bits_of(state.predictor) / 128 * 128 + seven as u32;
     Header {
-        high: (bits / 256) as u8,
-        low: (bits % 256) as u8,
+        high: high_half(bits),
+        low: low_half(bits),
     }
 }

@@ -1,7 +1,8 @@
 // The arithmetic of one nibble, as far as it takes all inputs: each function is a line or two of the definition.
+use num::lesser_u32;
 ghost use mathlib.Core.Path.{_≡_};
 ghost use mathlib.Core.Bool.{cond};
-ghost use Prim.Native.Nat.{_*_, _%_, _≤_, _<_, min};
+ghost use Prim.Native.Nat.{_*_, _%_, _≤_, _<_};
 ghost use lib.Dec.{eqb};
 ghost use lib.IntN.{pos, negsuc, natAbs, _+ℤ_, _-ℤ_};
 ghost use lib.Signed.{mag};
@@ -50,7 +51,7 @@ fn left(r: u32, x: u32) -> u32
 pub fn towards(predictor: i16, negative: bool, d: u32) -> i16
     ensures { λ r. ⌜ r ≡ Clamp.clamp (negsuc 32767) (pos 32767) (cond negative (predictor -ℤ pos d) (predictor +ℤ pos d)) ⌝ }
 {
-    let by = fewer(d, room(predictor, negative)) as i32;
+    let by = lesser_u32(d, room(predictor, negative)) as i32;
     if negative {
         (predictor as i32 - by) as i16
     } else {
@@ -66,10 +67,4 @@ fn room(predictor: i16, negative: bool) -> u32
     } else {
         (32767 - predictor as i32) as u32
     }
-}
-
-fn fewer(a: u32, b: u32) -> u32
-    ensures { λ r. ⌜ r ≡ min a b ⌝ }
-{
-    if a < b { a } else { b }
 }

@@ -7,7 +7,7 @@ use ima_arithmetic::taken;
 use ima_arithmetic::takes;
 use ima_arithmetic::towards;
 use nibble::absolute;
-use nibble::held;
+use nibble::next_index;
 use nibble::predicted;
 use nibble::raised;
 use nibble::reached;
@@ -39,7 +39,7 @@ impl Wide {
         let predictor = predicted(s, self.predictor, nibble);
         Self {
             predictor,
-            index: held(place, nibble),
+            index: next_index(place, nibble),
         }
     }
 

@@ -53,7 +53,7 @@ fn size(s: u32, nibble: u32) -> u32
 }
 
 // The move of a nibble with bit 4 is twice its two lower bits and 2, and that of any other -1. Both are one less than what is added.
-pub(crate) fn held(index: usize, nibble: u32) -> usize
+pub(crate) fn next_index(index: usize, nibble: u32) -> usize
     requires { ⌜ index ≤ 88 ⌝ }
     ensures { λ r. ⌜ r ≡ indexed 88 index nibble ⌝ }
 {
@@ -61,7 +61,7 @@ pub(crate) fn held(index: usize, nibble: u32) -> usize
     lesser(monus(raised, 1), 88)
 }
 
-// A magnitude of 4 and more is 4 and what is reached above the step. What is added is one more than the move, as in `held`.
+// A magnitude of 4 and more is 4 and what is reached above the step. What is added is one more than the move, as in `next_index`.
 pub(crate) fn raised(index: usize, four: u32, above: u32) -> usize
     requires { ⌜ (index ≤ 88) × (four ≤ 1) × (above ≤ 3) ⌝ }
     ensures { λ r. ⌜ r ≡ min (index + (3 * four + 2 * above) - 1) 88 ⌝ }

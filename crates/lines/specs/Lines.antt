@@ -2,21 +2,21 @@
 use mathlib.Core.List.{List, _++_}
 use mathlib.Core.Option.{Option, none, some}
 use Prim.Native.Nat.{ℕ}
-use Rattle.loss.specs.Loss.{Reported}
+use Rattle.loss.specs.Loss.{Report}
 use Rattle.text.specs.Text.{ascii, decimal, line}
 
 -- It prints `refused N`;
-abbrev pub refused : ℕ → List ℕ
-refused number = line (ascii "refused " ++ decimal number)
+abbrev pub refusalLine : ℕ → List ℕ
+refusalLine number = line (ascii "refused " ++ decimal number)
 
 -- or `same` if no byte changed;
-abbrev pub same : List ℕ
-same = line (ascii "same")
+abbrev pub sameLine : List ℕ
+sameLine = line (ascii "same")
 
 -- or else `changed C first F peak P`, F being `-` if none differ.
-abbrev pub place : Option ℕ → List ℕ
-place none = ascii "-"
-place (some k) = decimal k
+abbrev pub placeText : Option ℕ → List ℕ
+placeText none = ascii "-"
+placeText (some k) = decimal k
 
-abbrev pub changed : Reported → List ℕ
-changed r = line (ascii "changed " ++ decimal (r .count) ++ ascii " first " ++ place (r .first) ++ ascii " peak " ++ decimal (r .peak))
+abbrev pub changeLine : Report (Option ℕ) → List ℕ
+changeLine r = line (ascii "changed " ++ decimal (r .count) ++ ascii " first " ++ placeText (r .first) ++ ascii " peak " ++ decimal (r .peak))

@@ -6,17 +6,17 @@ use text::put_decimal;
 ghost use mathlib.Core.Path.{_≡_};
 ghost use Prim.Native.Nat.{_≤_};
 ghost use lib.ListN.{length};
-ghost use Rattle.loss.specs.Loss.{placeOf, reported};
+ghost use Rattle.loss.specs.Loss.{placeOf, report};
 ghost use Rattle.text.specs.Text as Text;
 ghost use Rattle.text.specs.Text.{Stands};
-ghost use Rattle.lines.specs.Lines as Lines;
+ghost use Rattle.lines.specs.Lines.{refusalLine, placeText, changeLine};
 
 // The longest answer: three numbers of ten digits at most, among 22 other bytes, and a block of 4,096 bytes in hex.
 pub const ROOM: usize = 8245;
 
 // `refused N`
-pub fn refused(number: u8, out: &mut [u8; ROOM]) -> usize
-    ensures { λ r. ⌜ Stands (now (out .entry)) 0 (Lines.refused number) r (now (out .exit)) ⌝ }
+pub fn put_refusal(number: u8, out: &mut [u8; ROOM]) -> usize
+    ensures { λ r. ⌜ Stands (now (out .entry)) 0 (refusalLine number) r (now (out .exit)) ⌝ }
 {
     let word = put(out, 0, b"refused ");
     let end = put_decimal(out, word, number as u32);
@@ -24,8 +24,8 @@ pub fn refused(number: u8, out: &mut [u8; ROOM]) -> usize
 }
 
 // `changed C first F peak P`
-pub fn line(loss: Loss, out: &mut [u8; ROOM]) -> usize
-    ensures { λ r. ⌜ Stands (now (out .entry)) 0 (Lines.changed (reported (loss .refusal) (loss .count) (placeOf (loss .first)) (loss .peak))) r (now (out .exit)) × (r ≤ 52) ⌝ }
+pub fn put_change(loss: Loss, out: &mut [u8; ROOM]) -> usize
+    ensures { λ r. ⌜ Stands (now (out .entry)) 0 (changeLine (report (loss .count) (placeOf (loss .first)) (loss .peak))) r (now (out .exit)) × (r ≤ 52) ⌝ }
 {
     let word = put(out, 0, b"changed ");
     let count = put_decimal(out, word, loss.count);
@@ -39,7 +39,7 @@ pub fn line(loss: Loss, out: &mut [u8; ROOM]) -> usize
 
 // A place, or `-` for none.
 fn put_place(out: &mut [u8; ROOM], at: usize, first: First) -> usize
-    ensures { λ r. ⌜ (r ≡ Text.placeAfter (now (out .entry)) at (Lines.place (placeOf first))) × (now (out .exit) ≡ Text.putIn (now (out .entry)) at (Lines.place (placeOf first))) × (length (Lines.place (placeOf first)) ≤ 10) ⌝ }
+    ensures { λ r. ⌜ (r ≡ Text.placeAfter (now (out .entry)) at (placeText (placeOf first))) × (now (out .exit) ≡ Text.putIn (now (out .entry)) at (placeText (placeOf first))) × (length (placeText (placeOf first)) ≤ 10) ⌝ }
 {
     match first {
         First::At(k) => put_decimal(out, at, k),

@@ -11,7 +11,7 @@ use lib.Seq.{drop-drop}
 use borrow.Author.Tests.{eqb-true, eq-eqb}
 use borrow.Table.Steps.{cases}
 use Rattle.loss.specs.Loss.{distance, distances, countOf, firstFrom, firstOf, largest}
-use Rattle.loss.specs.Seen.{differing, alikeTo, rest, Sees}
+use Rattle.loss.specs.Private.{differing, alikeTo, rest, Sees}
 use Rattle.loss.proofs.Places.{count-append, largest-append, first-behind, parted, distances-length, turn, gone}
 
 module _ (xs ys : List ℤ) where

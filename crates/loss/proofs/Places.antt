@@ -11,8 +11,9 @@ use lib.ListN.{length, getD, take, drop, drop-of-length-le}
 use lib.Seq.{drop-cons}
 use borrow.Author.Tests.{le-leb, eq-eqb, ne-eqb}
 use borrow.Table.Steps.{cases}
-use Rattle.loss.specs.Loss.{distance, distances, countOf, firstFrom, firstOf, largest, capped, reported, reportOf, lossReport}
-use Rattle.loss.specs.Seen.{rest, Sees}
+use Rattle.num.specs.Outcome.{outcome}
+use Rattle.loss.specs.Loss.{distance, distances, countOf, firstFrom, firstOf, largest, capped, report, reportOf, lossReport}
+use Rattle.loss.specs.Private.{rest, Sees}
 
 -- ---- differences, one list behind another
 
@@ -82,7 +83,7 @@ module _ (xs ys : List ℤ) (same : length xs ≡ length ys) where
 
   -- that are taken
   module _ (few : length xs ≤ 131063) where
-    pub taken : lossReport xs ys ≡ reportOf (distances xs ys)
+    pub taken : lossReport xs ys ≡ outcome 0 (reportOf (distances xs ys)) tt
     unfolding lossReport
     taken = rw (eq-eqb (length xs) (length ys) same, le-leb (length xs) 131063 few) refl
 
@@ -91,5 +92,5 @@ module _ (xs ys : List ℤ) (same : length xs ≡ length ys) where
         → place ≡ firstFrom alike (rest xs ys alike)
         → firstFrom alike (rest xs ys alike) ≡ firstOf (distances xs ys)
         → peak ≡ capped most
-        → reported 0 count place peak ≡ lossReport xs ys
+        → outcome 0 (report count place peak) tt ≡ lossReport xs ys
     reports alike s p e k = rw (p ∙ e, k, s .counts, s .tops) (sym taken)

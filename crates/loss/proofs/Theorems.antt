@@ -1,7 +1,7 @@
 -- What the report says of equal runs, and of no others. Assumes nothing.
 use mathlib.Core.Path.{_≡_, refl, sym, ap, ap₂, _∙_}
 use mathlib.Core.List.{List, [], _∷_}
-use mathlib.Core.Option.{none}
+use mathlib.Core.Option.{none, Option·some-injective, Option·some-ne-none}
 use Prim.Native.Nat.{ℕ, suc, _≤_}
 use native.Mathlib.Omega.{arith}
 use lib.Dec.{eqb}
@@ -9,7 +9,10 @@ use lib.IntN.{ℤ, pos, negsuc, natAbs, _+ℤ_, _-ℤ_, +ℤ-idl, +ℤ-invr, -�
 use lib.ListN.{length}
 use borrow.Author.Tests.{eqb-true}
 use borrow.Table.Steps.{cases}
-use Rattle.loss.specs.Loss.{distance, distances, countOf, firstFrom, largest, reported, reportOf, lossReport}
+use Rattle.num.specs.Outcome.{outcome, Faithful}
+use Rattle.loss.specs.declared.First.{First}
+use Rattle.loss.specs.declared.First.the-variants.{At, Nowhere}
+use Rattle.loss.specs.Loss.{placeOf, distance, distances, countOf, firstFrom, largest, report, reportOf, lossReport}
 use Rattle.loss.proofs.Places.{taken}
 
 -- ---- two samples
@@ -44,11 +47,20 @@ nothing (x ∷ xs) i = let (c, f, l) = nothing xs (suc i) in rw (itself x) (omeg
 
 module _ (xs ys : List ℤ) (same : length xs ≡ length ys) (few : length xs ≤ 131063) where
   -- The count is 0 only where the two runs are equal,
-  pub equal-if-none : lossReport xs ys .count ≡ 0 → xs ≡ ys
-  equal-if-none e = none-differ xs ys same (ap (λ r. r .count) (sym (taken xs ys same few)) ∙ e)
+  pub equal-if-none : lossReport xs ys .back .count ≡ 0 → xs ≡ ys
+  equal-if-none e = none-differ xs ys same (ap (λ r. r .back .count) (sym (taken xs ys same few)) ∙ e)
 
   -- and where they are, nothing is reported: no place differs, there is no first one, and the peak is 0.
-  pub none-if-equal : xs ≡ ys → lossReport xs ys ≡ reported 0 0 none 0
+  pub none-if-equal : xs ≡ ys → lossReport xs ys ≡ outcome 0 (report 0 none 0) tt
   none-if-equal e =
       let (c, f, l) = nothing xs 0 in
-      taken xs ys same few ∙ ap (λ (zs : List ℤ). reportOf (distances xs zs)) (sym e) ∙ rw (c, f, l) refl
+      taken xs ys same few ∙ ap (λ (zs : List ℤ). outcome 0 (reportOf (distances xs zs)) tt) (sym e) ∙ rw (c, f, l) refl
+
+-- ---- the view
+
+-- The view of a first place loses nothing.
+pub place-faithful : Faithful placeOf
+place-faithful (At k) (At l) e = ap At (Option·some-injective k l e)
+place-faithful (At k) Nowhere e = absurd (Option·some-ne-none k e)
+place-faithful Nowhere (At l) e = absurd (Option·some-ne-none l (sym e))
+place-faithful Nowhere Nowhere e = refl

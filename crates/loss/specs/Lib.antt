@@ -1,2 +1,2 @@
 pub mod Loss
-pub mod Seen
+pub mod Private

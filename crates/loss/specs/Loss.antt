@@ -6,6 +6,7 @@ use Prim.Native.Nat.{ℕ, suc, _+_, min, max}
 use lib.Dec.{eqb, leb}
 use lib.IntN.{ℤ, natAbs, _-ℤ_}
 use lib.ListN.{length}
+use Rattle.num.specs.Outcome.{Outcome, outcomeBy}
 use Rattle.loss.specs.declared.First.{First}
 use Rattle.loss.specs.declared.First.the-variants.{At, Nowhere}
 
@@ -45,20 +46,23 @@ abbrev pub placeOf : First → Option ℕ
 placeOf (At k) = some k
 placeOf Nowhere = none
 
--- What the call returns.
-pub record Reported : Type 0 where
-  pub refusal : ℕ
+-- The report: how many places differ, the first of them, and the peak. The first is a place or none here, and a number over C.
+pub record Report (Place : Type 0) : Type 0 where
   pub count : ℕ
-  pub first : Option ℕ
+  pub first : Place
   pub peak : ℕ
 
-abbrev pub reported : ℕ → ℕ → Option ℕ → ℕ → Reported
-reported number count first peak = record { refusal = number; count = count; first = first; peak = peak }
+abbrev pub report : {Place : Type 0} → ℕ → Place → ℕ → Report Place
+report count first peak = record { count = count; first = first; peak = peak }
 
-abbrev pub reportOf : List ℕ → Reported
-reportOf ds = reported 0 (countOf ds) (firstOf ds) (capped (largest ds))
+abbrev pub reportOf : List ℕ → Report (Option ℕ)
+reportOf ds = report (countOf ds) (firstOf ds) (capped (largest ds))
 
--- Two sample runs of equal length, 0 to 131,063; any others are refused by 2, and then there is nothing to report.
-unfoldable pub lossReport : List ℤ → List ℤ → Reported
+-- Two sample runs of equal length, 0 to 131,063; any others are refused by 2,
+abbrev pub lossRefusal : ℕ → ℕ → ℕ
+lossRefusal n m = cond (eqb n m && leb n 131063) 0 2
+
+-- and then there is nothing to report.
+unfoldable pub lossReport : List ℤ → List ℤ → Outcome (Report (Option ℕ)) Unit
 lossReport before after =
-    cond (eqb (length before) (length after) && leb (length before) 131063) (reportOf (distances before after)) (reported 2 0 none 0)
+    outcomeBy (lossRefusal (length before) (length after)) (reportOf (distances before after), tt) (report 0 none 0, tt)

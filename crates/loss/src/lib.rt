@@ -1,12 +1,14 @@
 // The loss report of two sample runs.
 use num::larger;
+use num::larger_u16;
 use num::lesser;
 ghost use mathlib.Core.Path.{_≡_};
-ghost use Prim.Native.Nat.{_<_, _≤_, max};
+ghost use Prim.Native.Nat.{_<_, _≤_};
 ghost use lib.ListN.{length};
+ghost use Rattle.num.specs.Outcome.{outcome};
 ghost use Rattle.loss.specs.Loss as Report;
-ghost use Rattle.loss.specs.Loss.{distances, firstFrom, firstOf, placeOf, reported, lossReport};
-ghost use Rattle.loss.specs.Seen.{differing, alikeTo, rest, Sees};
+ghost use Rattle.loss.specs.Loss.{distances, firstFrom, firstOf, placeOf, report, lossReport};
+ghost use Rattle.loss.specs.Private.{differing, alikeTo, rest, Sees};
 
 // The first place that differs, counted from 0.
 pub enum First {
@@ -23,7 +25,7 @@ pub struct Loss {
 
 // Two runs of equal length, 0 to 131,063. Any others are refused by 2.
 pub fn loss_report(before: &[i16], after: &[i16]) -> Loss
-    ensures { λ r. ⌜ reported (r .refusal) (r .count) (placeOf (r .first)) (r .peak) ≡ lossReport (now (before .entry)) (now (after .entry)) ⌝ }
+    ensures { λ r. ⌜ outcome (r .refusal) (report (r .count) (placeOf (r .first)) (r .peak)) tt ≡ lossReport (now (before .entry)) (now (after .entry)) ⌝ }
 {
     let n = before.len();
     if n != after.len() || 131063 < n {
@@ -92,7 +94,7 @@ fn stretch(before: &[i16], after: &[i16]) -> Seen
     while i < before.len() {
         let d = distance(before[i], after[i]);
         count += differs(d);
-        largest = farther(largest, d);
+        largest = larger_u16(largest, d);
         i += 1;
     }
     Seen { count, largest }
@@ -114,12 +116,6 @@ fn differs(d: u16) -> u16
     ensures { λ r. ⌜ (r ≡ differing d) × (r ≤ 1) ⌝ }
 {
     if d == 0 { 0 } else { 1 }
-}
-
-fn farther(a: u16, b: u16) -> u16
-    ensures { λ r. ⌜ r ≡ max a b ⌝ }
-{
-    if a < b { b } else { a }
 }
 
 // As long as no place differs, all are alike up to here.

@@ -15,7 +15,7 @@ use Rattle.ms_block.specs.Header.{headOf}
 use Rattle.ms_block.proofs.Sizes.{Shape, four-bytes, samples-each, even-samples}
 use Rattle.ms_block.proofs.Weave.{weaves, singly, in-list, in-strand, strand-at, strand-length}
 use Rattle.ms_block.specs.Block.{decodedChannel, bytesIn, decodedBlock}
-use Rattle.ms_decode.specs.Progress.{Headed}
+use Rattle.ms_decode.specs.Private.{Headed}
 use Rattle.ms_block.proofs.OwnBytes.{moved, before, sample, low, high, low-is, high-is, next-is}
 use Rattle.ms_block.proofs.Midst.{byte, States, states-first, state-now, states-turn, Frames, frames-first, frames-turn}
 use Rattle.ms_block.proofs.Walk.{Bytes, own, four, own-place, own-inside, room}

@@ -1,1 +1,1 @@
-pub mod Progress
+pub mod Private

@@ -14,7 +14,7 @@ ghost use Rattle.ima_step.specs.View.{wideOf};
 ghost use Rattle.ms_block.specs.Sizes.{Taken};
 ghost use Rattle.ms_block.specs.Block.{decodedBlock};
 ghost use Rattle.ms_block.specs.Call.{answered, decodeBlock};
-ghost use Rattle.ms_decode.specs.Progress.{Headed};
+ghost use Rattle.ms_decode.specs.Private.{Headed};
 
 // The number is 0 for done, or of a refusal, and then nothing is written.
 pub fn decode_adpcm_ima_ms(channels: u8, buf: &[u8], out_samples: &mut [i16]) -> u8

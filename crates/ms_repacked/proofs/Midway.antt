@@ -22,7 +22,7 @@ use Rattle.ms_block.proofs.OwnBytes.{moved}
 use Rattle.ms_block.proofs.OwnSamples as Samples
 use Rattle.ms_block.proofs.OwnSamples.{gives}
 use Rattle.ms_block.proofs.Round.{decoded-many}
-use Rattle.ms_repacked.specs.Progress.{Upto}
+use Rattle.ms_repacked.specs.Private.{Upto}
 use Rattle.ms_repacked.specs.Repack.{repacked}
 use Rattle.ms_repacked.proofs.Settled.{again, repacked-length, channel-again}
 

@@ -1,3 +1,3 @@
-pub mod Progress
+pub mod Private
 pub mod Repack
 pub mod Written

@@ -1,6 +1,7 @@
 pub mod Bits
 pub mod Halves
 pub mod Lists
+pub mod Outcome
 pub mod Shift
 pub mod Signed
 pub mod Tests

@@ -18,7 +18,21 @@ pub fn larger(a: u32, b: u32) -> u32
     if a < b { b } else { a }
 }
 
+// The same of 16 bits.
+pub fn larger_u16(a: u16, b: u16) -> u16
+    ensures { λ r. ⌜ r ≡ max a b ⌝ }
+{
+    if a < b { b } else { a }
+}
+
 pub fn lesser(a: usize, b: usize) -> usize
+    ensures { λ r. ⌜ r ≡ min a b ⌝ }
+{
+    if a < b { a } else { b }
+}
+
+// The same of 32 bits.
+pub fn lesser_u32(a: u32, b: u32) -> u32
     ensures { λ r. ⌜ r ≡ min a b ⌝ }
 {
     if a < b { a } else { b }
@@ -62,6 +76,20 @@ pub fn bits_of(x: i16) -> u32
 {
     let size = complemented(x);
     if x < 0 { 65535 - size } else { size }
+}
+
+// The lower of the two bytes that 16 bits are.
+pub fn low_half(bits: u32) -> u8
+    ensures { λ r. ⌜ r ≡ bits % 256 ⌝ }
+{
+    (bits % 256) as u8
+}
+
+// The upper one.
+pub fn high_half(bits: u32) -> u8
+    ensures { λ r. ⌜ r ≡ bits / 256 % 256 ⌝ }
+{
+    (bits / 256 % 256) as u8
 }
 
 // The lower half of a byte.

@@ -4,6 +4,7 @@ use mathlib.Core.List.{List}
 use Prim.Native.Nat.{ℕ, _+_, _*_}
 use lib.Dec.{eqb, leb}
 use lib.ListN.{length, getD, drop}
+use Rattle.num.specs.Outcome.{Outcome, outcomeBy}
 use Rattle.text.specs.Text.{put}
 
 -- Two bytes big-endian, the length of all that follows, 2 to 4,098; version byte 1; channel byte; the block.
@@ -23,17 +24,8 @@ blockOf input = drop 4 input
 unfoldable pub wellFormed : List ℕ → Bool
 wellFormed input = leb 2 (lengthOf input) && leb (lengthOf input) 4098 && eqb (length input) (2 + lengthOf input) && eqb (versionOf input) 1
 
--- What reading returns and leaves: the number, the channel byte, how long the block is, and what its array holds at the end.
-pub record Held : Type 0 where
-  pub refusal : ℕ
-  pub channels : ℕ
-  pub size : ℕ
-  pub buffer : List ℕ
-
-abbrev pub held : ℕ → ℕ → ℕ → List ℕ → Held
-held number channels size bytes = record { refusal = number; channels = channels; size = size; buffer = bytes }
-
--- 4, only the number: the array is untouched. Or else 0, and the block stands at the start of the array, with what was behind it left as it was.
-unfoldable pub readRecord : List ℕ → List ℕ → Held
+-- They are refused by 4. Of any other record the channel byte and the block's length come back, and the block stands at the start of the array,
+-- with what was behind it left as it was.
+unfoldable pub readRecord : List ℕ → List ℕ → Outcome (ℕ × ℕ) (List ℕ)
 readRecord input out =
-    cond (wellFormed input) (held 0 (channelsOf input) (length (blockOf input)) (put out 0 (blockOf input))) (held 4 0 0 out)
+    outcomeBy (cond (wellFormed input) 0 4) ((channelsOf input, length (blockOf input)), put out 0 (blockOf input)) ((0, 0), out)

@@ -2,7 +2,8 @@
 use text::put;
 ghost use mathlib.Core.Path.{_≡_};
 ghost use Prim.Native.Nat.{_+_, _*_};
-ghost use Rattle.record.specs.Record.{wellFormed, held, readRecord};
+ghost use Rattle.num.specs.Outcome.{outcome};
+ghost use Rattle.record.specs.Record.{wellFormed, readRecord};
 
 // `refusal` is 0 for done, or 4; `length` says how much of the array is the block.
 pub struct Record {
@@ -12,7 +13,7 @@ pub struct Record {
 }
 
 pub fn read(input: &[u8], block: &mut [u8; 4096]) -> Record
-    ensures { λ r. ⌜ held (r .refusal) (r .channels) (r .length) (now (block .exit)) ≡ readRecord (now (input .entry)) (now (block .entry)) ⌝ }
+    ensures { λ r. ⌜ outcome (r .refusal) (r .channels, r .length) (now (block .exit)) ≡ readRecord (now (input .entry)) (now (block .entry)) ⌝ }
 {
     if well_formed(input) {
         let channels = input[3];

@@ -14,7 +14,7 @@ ghost use lib.ListN.{length};
 ghost use Rattle.adpcm_ima.specs.View.{stateOf};
 ghost use Rattle.ms_block.specs.Header.{headOf};
 ghost use Rattle.ms_block.specs.Block.{bytesIn};
-ghost use Rattle.ms_repacked.specs.Progress.{Alike, Upto};
+ghost use Rattle.ms_repacked.specs.Private.{Alike, Upto};
 ghost use Rattle.ms_repacked.specs.Repack.{repacked, differ, answered, repackBlock};
 
 // `refusal` is 0 for done. A refusal leaves the buffer alone, and no byte changed.

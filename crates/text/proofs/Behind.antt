@@ -10,7 +10,7 @@ use native.Mathlib.Numerals.{add-one}
 use lib.ListN.{length, getD, set, take, drop, length-append, length-take, length-drop, take-append-drop}
 use lib.Seq.{paste, paste-suc, length-take-le, take-length, take-at, drop-append-add, drop-drop}
 use borrow.Author.Tests.{le-leb, lt-leb}
-use Rattle.text.specs.Text.{put, fits, putIn, placeAfter, Stands}
+use Rattle.text.specs.Text.{put, hasRoom, putIn, placeAfter, Stands}
 
 -- ---- a text that is written from the front
 
@@ -63,7 +63,7 @@ module _ (out : List ℕ) (at : ℕ) (s : List ℕ) (h : at + length s ≤ lengt
       let behind = ap (drop (at + length s + length t)) put-head ∙ ap (λ (n : ℕ). drop (n + length t) (head ++ rest)) (sym head-length) ∙ drop-append-add head rest (length t) ∙ drop-drop (length t) (at + length s) out in
       ap₂ (λ (xs ys : List ℕ). xs ++ (t ++ ys)) put-taken (behind ∙ ap (λ (n : ℕ). drop n out) place) ∙ simp append-assoc
 
-  it-fits : fits out at s ≡ true
+  it-fits : hasRoom out at s ≡ true
   it-fits = le-leb (length s) (length out - at) (omega (arith, h))
 
   pub putIn-put : putIn out at s ≡ put out at s

@@ -39,16 +39,16 @@ line text = text ++ ascii "\n"
 abbrev pub put : List ℕ → ℕ → List ℕ → List ℕ
 put out at text = take at out ++ (text ++ drop (at + length text) out)
 
--- A text fits from a place on if there are bytes enough. One that does not is not put: the buffer stays as it was,
-abbrev pub fits : List ℕ → ℕ → List ℕ → Bool
-fits out at text = leb (length text) (length out - at)
+-- A text has room from a place on if there are bytes enough. One that does not is not put: the buffer stays as it was,
+abbrev pub hasRoom : List ℕ → ℕ → List ℕ → Bool
+hasRoom out at text = leb (length text) (length out - at)
 
 unfoldable pub putIn : List ℕ → ℕ → List ℕ → List ℕ
-putIn out at text = cond (fits out at text) (put out at text) out
+putIn out at text = cond (hasRoom out at text) (put out at text) out
 
 -- and so does the place, which is behind the text otherwise.
 unfoldable pub placeAfter : List ℕ → ℕ → List ℕ → ℕ
-placeAfter out at text = cond (fits out at text) (at + length text) at
+placeAfter out at text = cond (hasRoom out at text) (at + length text) at
 
 -- A text that was put at a place, and the place behind it.
 abbrev pub Stands : List ℕ → ℕ → List ℕ → ℕ → List ℕ → Type 0

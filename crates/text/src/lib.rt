@@ -1,6 +1,7 @@
 // Text put into a buffer. Each call hands back the place behind its text; one whose text has no room hands back its own place, and leaves the buffer as it was.
+use num::monus;
 ghost use mathlib.Core.Path.{_≡_};
-ghost use Prim.Native.Nat.{_-_, _<_};
+ghost use Prim.Native.Nat.{_<_};
 ghost use Rattle.text.specs.Text as Text;
 ghost use Rattle.text.specs.Text.{hex, decimal, putIn, placeAfter};
 
@@ -9,7 +10,7 @@ pub fn put(out: &mut [u8], at: usize, text: &[u8]) -> usize
     ensures { λ r. ⌜ (r ≡ placeAfter (now (out .entry)) at (now (text .entry))) × (now (out .exit) ≡ putIn (now (out .entry)) at (now (text .entry))) ⌝ }
 {
     let n = text.len();
-    if room(out.len(), at) < n {
+    if monus(out.len(), at) < n {
         return at;
     }
     let mut i = 0;
@@ -42,7 +43,7 @@ pub fn put_hex(out: &mut [u8], at: usize, bytes: &[u8]) -> usize
     ensures { λ r. ⌜ (r ≡ placeAfter (now (out .entry)) at (hex (now (bytes .entry)))) × (now (out .exit) ≡ putIn (now (out .entry)) at (hex (now (bytes .entry)))) ⌝ }
 {
     let n = bytes.len();
-    if room(out.len(), at) / 2 < n {
+    if monus(out.len(), at) / 2 < n {
         return at;
     }
     let mut next = at;
@@ -55,13 +56,6 @@ pub fn put_hex(out: &mut [u8], at: usize, bytes: &[u8]) -> usize
         k += 1;
     }
     next
-}
-
-// How many bytes there are from a place on.
-fn room(size: usize, at: usize) -> usize
-    ensures { λ r. ⌜ r ≡ size - at ⌝ }
-{
-    if size < at { 0 } else { size - at }
 }
 
 fn digit(d: u8) -> u8

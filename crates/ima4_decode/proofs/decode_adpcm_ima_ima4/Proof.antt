@@ -8,14 +8,15 @@ use mir.Syntax.{w16}
 use mir.Val.{SFits, toZ, ofZ}
 use mir.ValLaws.{toZ-ofZ}
 use borrow.Author.Needs.{needs}
+use Rattle.num.specs.Outcome.{outcome}
 use Rattle.ima_nibble.specs.Step.{State, sixteen, stepped}
 use Rattle.ima_nibble.specs.Table.{imaSteps}
 use Rattle.ima_step.specs.View.{wideOf}
 use Rattle.ima_nibble.specs.Series.{done, after}
 use Rattle.ima_nibble.proofs.Bounds.{moved-lt, narrow-below}
-use Rattle.ima4_block.specs.Block.{decodedBlock}
-use Rattle.ima4_block.specs.Call.{answered, finished, one, decodeBlock}
-use Rattle.ima4_block.proofs.Lengths.{failed, passed, sized-are}
+use Rattle.ima4_block.specs.Block.{decodedIma4Block}
+use Rattle.ima4_block.specs.Call.{finished, isBlock, decodeIma4}
+use Rattle.ima4_block.proofs.Lengths.{failed, passed, blocks-are}
 use Rattle.ima4_block.proofs.Turn.{all, samplesFrom, two-samples, no-samples}
 use Rattle.ima4_decode.proofs.decode_adpcm_ima_ima4.Statement.{statement}
 use Rattle.ima4_decode.proofs.decode_adpcm_ima_ima4.Tie as tie
@@ -32,17 +33,17 @@ abbrev μ-loop : tie.MeasureT-loop
 μ-loop buf out-samples₀ steps wide₀ k₀ out-samples wide k = 32 - k
 
 returns : tie.Need-returns Inv-loop μ-loop
-unfolding decodeBlock
+unfolding decodeIma4
 returns c =
-    let is = c .refused .ensures in
-    rw (is .0, is .1, sym (c .before .before .one .ensures) ∙ failed (c .before .before .one .result) (c .before .if1 .taken)) refl
+    let is = c .refuse .ensures in
+    rw (is .0, is .1, sym (c .before .before .is-block .ensures) ∙ failed (c .before .before .is-block .result) (c .before .if1 .taken)) refl
 
 -- behind the test of the lengths
-taken : (c : tie.Else1 Inv-loop μ-loop) → let a = c .before .before .before .args in one (length (a .buf .now)) (length (a .out-samples .now)) ≡ true
-taken c = sym (c .before .one .ensures) ∙ passed (c .before .one .result) (c .if1 .left)
+taken : (c : tie.Else1 Inv-loop μ-loop) → let a = c .before .before .before .args in isBlock (length (a .buf .now)) (length (a .out-samples .now)) ≡ true
+taken c = sym (c .before .is-block .ensures) ∙ passed (c .before .is-block .result) (c .if1 .left)
 
 lengths : (c : tie.Else1 Inv-loop μ-loop) → let a = c .before .before .before .args in (length (a .buf .now) ≡ 34) × (length (a .out-samples .now) ≡ 64)
-lengths c = let a = c .before .before .before .args in sized-are 1 (length (a .buf .now)) (length (a .out-samples .now)) (taken c)
+lengths c = let a = c .before .before .before .args in blocks-are 1 (length (a .buf .now)) (length (a .out-samples .now)) (taken c)
 
 -- the test of the lengths, from before the loop
 abbrev tested : tie.After-widened Inv-loop μ-loop → tie.Else1 Inv-loop μ-loop
@@ -103,7 +104,7 @@ same-length : tie.Need-same-length Inv-loop μ-loop
 same-length c = let at = c .before .before in at .loop .inv .2 ∙ sym (lengths (tested (at .before)) .1)
 
 returns-2 : tie.Need-returns-2 Inv-loop μ-loop
-unfolding decodeBlock decodedBlock
+unfolding decodeIma4 decodedIma4Block
 returns-2 c =
     let at = c .before .before in
     let s = tested (at .before) in
@@ -111,7 +112,7 @@ returns-2 c =
     let from = at .before .widened .ensures .0 ∙ at .before .before .started .ensures in
     let state = c .narrowed .ensures ∙ narrow-below (wideOf (at .loop .wide)) (at .loop .inv .4) in
     let block = ends (c .before) ∙ ap (λ (st : State). samplesFrom imaSteps 0 st bytes) from in
-    rw (taken s) (ap (λ (st : State). answered 0 st (at .loop .out-samples)) state ∙ ap finished block)
+    rw (taken s) (ap (λ (st : State). outcome 0 st (at .loop .out-samples)) state ∙ ap finished block)
 
 pub decode-adpcm-ima-ima4-spec : {M : Type 1} → statement M
 decode-adpcm-ima-ima4-spec =

@@ -10,14 +10,15 @@ use mir.Syntax.{w16}
 use mir.Val.{SFits}
 use mir.ValLaws.{toZ-ofZ}
 use borrow.Author.Needs.{needs}
+use Rattle.num.specs.Outcome.{outcome}
 use Rattle.ima_nibble.specs.Step.{sixteen, emitted}
 use Rattle.ima_nibble.specs.Table.{imaSteps}
 use Rattle.ima_step.specs.View.{wideOf}
 use Rattle.ima_nibble.specs.Series.{done, after}
 use Rattle.ima_nibble.proofs.Bounds.{moved-lt, narrow-below}
-use Rattle.ima4_block.specs.Block.{encodedBlock}
-use Rattle.ima4_block.specs.Call.{answered, finished, one, encodeBlock}
-use Rattle.ima4_block.proofs.Lengths.{failed, passed, sized-are}
+use Rattle.ima4_block.specs.Block.{encodedIma4Block}
+use Rattle.ima4_block.specs.Call.{finished, isBlock, encodeIma4}
+use Rattle.ima4_block.proofs.Lengths.{failed, passed, blocks-are}
 use Rattle.ima4_block.proofs.Turn.{first-two, all, bytesFrom, one-byte, no-bytes}
 use Rattle.ima4_encode.proofs.encode_adpcm_ima_ima4.Statement.{statement}
 use Rattle.ima4_encode.proofs.encode_adpcm_ima_ima4.Tie as tie
@@ -34,17 +35,17 @@ abbrev μ-loop : tie.MeasureT-loop
 μ-loop samples out-buf₀ steps wide₀ k₀ out-buf wide k = 32 - k
 
 returns : tie.Need-returns Inv-loop μ-loop
-unfolding encodeBlock
+unfolding encodeIma4
 returns c =
-    let is = c .refused .ensures in
-    rw (is .0, is .1, sym (c .before .before .one .ensures) ∙ failed (c .before .before .one .result) (c .before .if1 .taken)) refl
+    let is = c .refuse .ensures in
+    rw (is .0, is .1, sym (c .before .before .is-block .ensures) ∙ failed (c .before .before .is-block .result) (c .before .if1 .taken)) refl
 
 -- behind the test of the lengths
-taken : (c : tie.Else1 Inv-loop μ-loop) → let a = c .before .before .before .args in one (length (a .out-buf .now)) (length (a .samples .now)) ≡ true
-taken c = sym (c .before .one .ensures) ∙ passed (c .before .one .result) (c .if1 .left)
+taken : (c : tie.Else1 Inv-loop μ-loop) → let a = c .before .before .before .args in isBlock (length (a .out-buf .now)) (length (a .samples .now)) ≡ true
+taken c = sym (c .before .is-block .ensures) ∙ passed (c .before .is-block .result) (c .if1 .left)
 
 lengths : (c : tie.Else1 Inv-loop μ-loop) → let a = c .before .before .before .args in (length (a .out-buf .now) ≡ 34) × (length (a .samples .now) ≡ 64)
-lengths c = let a = c .before .before .before .args in sized-are 1 (length (a .out-buf .now)) (length (a .samples .now)) (taken c)
+lengths c = let a = c .before .before .before .args in blocks-are 1 (length (a .out-buf .now)) (length (a .samples .now)) (taken c)
 
 second-place : tie.Need-slice-write-out-buf-2 Inv-loop μ-loop
 second-place c =
@@ -109,15 +110,15 @@ ends c =
     ∙ ap (λ bs. after bs all-bytes) (first-two (a .out-buf .now) (header .high) (header .low) (omega (arith, lengths s .0)))
 
 returns-2 : tie.Need-returns-2 Inv-loop μ-loop
-unfolding encodeBlock encodedBlock
+unfolding encodeIma4 encodedIma4Block
 returns-2 c =
     let at = c .before .before in
     let s = tested (at .before) in
     let samples = s .before .before .before .args .samples .now in
-    let from = at .before .widened .ensures .0 ∙ at .before .before .lowered .ensures in
+    let from = at .before .widened .ensures .0 ∙ at .before .before .lowered-state .ensures in
     let state = c .narrowed .ensures ∙ narrow-below (wideOf (at .loop .wide)) (at .loop .inv .4) in
     let block = ends (c .before) ∙ ap₂ (λ bs st. after bs (bytesFrom imaSteps 0 st samples)) (at .before .before .before .header-of .ensures) from in
-    rw (taken s) (ap (λ st. answered 0 st (at .loop .out-buf)) state ∙ ap finished block)
+    rw (taken s) (ap (λ st. outcome 0 st (at .loop .out-buf)) state ∙ ap finished block)
 
 same-length : tie.Need-same-length Inv-loop μ-loop
 same-length c = let at = c .before .before in at .loop .inv .2 ∙ sym (lengths (tested (at .before)) .0)

@@ -6,16 +6,16 @@ use native.Mathlib.Omega.{arith}
 use lib.ListN.{length}
 use borrow.Author.Needs.{needs}
 use Rattle.adpcm_ima.specs.View.{stateOf}
-use Rattle.ima4_block.specs.Block.{encodedBlock}
-use Rattle.ima4_block.specs.Call.{finished, some, encodeBlock, encodeRun}
-use Rattle.ima4_block.proofs.Lengths.{failed, passed, some-are, encodes}
+use Rattle.ima4_block.specs.Block.{encodedIma4Block}
+use Rattle.ima4_block.specs.Call.{finished, isRun, encodeIma4, encodeIma4Run}
+use Rattle.ima4_block.proofs.Lengths.{failed, passed, run-are, encodes}
 use Rattle.ima4_block.proofs.Ran.{Ran, none, one-block, ends}
 use Rattle.ima4_encode.proofs.encode_adpcm_ima_ima4_run.Statement.{statement}
 use Rattle.ima4_encode.proofs.encode_adpcm_ima_ima4_run.Tie as tie
 
 abbrev Inv-loop : tie.InvT-loop
 Inv-loop samples out-buf₀ n next₀ i₀ out-buf next i =
-    Ran encodedBlock 64 34 encodeBlock encodes (stateOf next₀) samples (stateOf next) i out-buf
+    Ran encodedIma4Block 64 34 encodeIma4 encodes (stateOf next₀) samples (stateOf next) i out-buf
     × (n ≤ 1024)
     × (length samples ≡ 64 * n)
     × (length out-buf ≡ 34 * n)
@@ -25,23 +25,23 @@ abbrev μ-loop : tie.MeasureT-loop
 μ-loop samples out-buf₀ n next₀ i₀ out-buf next i = n - i
 
 returns : tie.Need-returns Inv-loop μ-loop
-unfolding encodeRun
+unfolding encodeIma4Run
 returns c =
-    let is = c .refused .ensures in
-    rw (is .0, is .1, sym (c .before .before .some .ensures) ∙ failed (c .before .before .some .result) (c .before .if1 .taken)) refl
+    let is = c .refuse .ensures in
+    rw (is .0, is .1, sym (c .before .before .is-run .ensures) ∙ failed (c .before .before .is-run .result) (c .before .if1 .taken)) refl
 
 -- behind the test of the lengths
-taken : (c : tie.Else1 Inv-loop μ-loop) → some (length (c .before .before .before .args .out-buf .now)) (length (c .before .before .before .args .samples .now)) ≡ true
-taken c = sym (c .before .some .ensures) ∙ passed (c .before .some .result) (c .if1 .left)
+taken : (c : tie.Else1 Inv-loop μ-loop) → isRun (length (c .before .before .before .args .out-buf .now)) (length (c .before .before .before .args .samples .now)) ≡ true
+taken c = sym (c .before .is-run .ensures) ∙ passed (c .before .is-run .result) (c .if1 .left)
 
 lengths : (c : tie.Else1 Inv-loop μ-loop) → let a = c .before .before .before .args in let n = length (a .out-buf .now) / 34 in (n ≤ 1024) × (length (a .out-buf .now) ≡ 34 * n) × (length (a .samples .now) ≡ 64 * n)
-lengths c = let a = c .before .before .before .args in some-are (length (a .out-buf .now)) (length (a .samples .now)) (taken c)
+lengths c = let a = c .before .before .before .args in run-are (length (a .out-buf .now)) (length (a .samples .now)) (taken c)
 
 loop-holds : tie.Need-loop-holds Inv-loop μ-loop
 loop-holds c =
     let a = c .before .before .before .args in
     let (few, b, s) = lengths c in
-    (none encodedBlock 64 34 encodeBlock encodes (stateOf (a .state)) (a .samples .now) (a .out-buf .now), few, s, b, omega arith)
+    (none encodedIma4Block 64 34 encodeIma4 encodes (stateOf (a .state)) (a .samples .now) (a .out-buf .now), few, s, b, omega arith)
 
 loop-again : tie.Need-loop-again Inv-loop μ-loop
 loop-again c =
@@ -52,21 +52,21 @@ loop-again c =
     let call = c .before .before .before .encode-adpcm-ima-ima4 in
     let same = c .before .before .out-buf .given in
     let h = test .loop-test .taken in
-    let turn = one-block encodedBlock 64 34 encodeBlock encodes (stateOf (a .state)) (a .samples .now) (length (a .out-buf .now) / 34) (at .loop .i) (stateOf (at .loop .next)) (stateOf (call .result .state)) (call .result .refusal) (at .loop .out-buf) (call .last .1 .1 .0) (call .ensures) (same .0) h (inv .2) (inv .3) (inv .0) in
+    let turn = one-block encodedIma4Block 64 34 encodeIma4 encodes (stateOf (a .state)) (a .samples .now) (length (a .out-buf .now) / 34) (at .loop .i) (stateOf (at .loop .next)) (stateOf (call .result .state)) (call .result .refusal) (at .loop .out-buf) (call .last .1 .1 .0) (call .ensures) (same .0) h (inv .2) (inv .3) (inv .0) in
     (turn, inv .1, inv .2, same .1 ∙ inv .3, omega (arith, h))
 
 same-length : tie.Need-same-length Inv-loop μ-loop
 same-length c = c .before .loop .inv .3 ∙ sym (lengths (c .before .before) .1)
 
 returns-2 : tie.Need-returns-2 Inv-loop μ-loop
-unfolding encodeRun
+unfolding encodeIma4Run
 returns-2 c =
     let at = c .before in
     let a = at .before .before .before .before .args in
     let inv = at .loop .inv in
     let n = length (a .out-buf .now) / 34 in
     let last : at .loop .i ≡ n = omega (arith, c .loop-test .left, inv .4) in
-    rw (taken (at .before)) (ap finished (ends encodedBlock 64 34 encodeBlock encodes (stateOf (a .state)) (a .samples .now) n (at .loop .i) (stateOf (at .loop .next)) (at .loop .out-buf) last (inv .3) (inv .0)))
+    rw (taken (at .before)) (ap finished (ends encodedIma4Block 64 34 encodeIma4 encodes (stateOf (a .state)) (a .samples .now) n (at .loop .i) (stateOf (at .loop .next)) (at .loop .out-buf) last (inv .3) (inv .0)))
 
 pub encode-adpcm-ima-ima4-run-spec : {M : Type 1} → statement M
 encode-adpcm-ima-ima4-run-spec =

@@ -9,28 +9,28 @@ use borrow.Author.Needs.{needs}
 use Rattle.num.specs.Halves.{fromBits}
 use Rattle.ima_nibble.specs.Step.{state}
 use Rattle.adpcm_ima.specs.View.{stateOf}
-use Rattle.ima4_block.specs.Header.{read, keeps, start}
+use Rattle.ima4_block.specs.Header.{headerState, keeps, start}
 use Rattle.ima4_header.proofs.started.Statement.{statement}
 use Rattle.ima4_header.proofs.started.Tie as tie
 
 -- the header's bits by its two bytes
-bits : (high low : ℕ) → low < 256 → state (fromBits (high * 256 + low / 128 * 128)) (min (low % 128) 88) ≡ read (256 * high + low)
+bits : (high low : ℕ) → low < 256 → state (fromBits (high * 256 + low / 128 * 128)) (min (low % 128) 88) ≡ headerState (256 * high + low)
 bits high low h =
     let top : high * 256 + low / 128 * 128 ≡ 128 * ((256 * high + low) / 128) = omega arith in
     let index : low % 128 ≡ (256 * high + low) % 128 = omega arith in
     ap₂ (λ (n i : ℕ). state (fromBits n) (min i 88)) top index
 
 -- the header's state, and whether it is taken
-heard : (c : tie.After-reloaded) → stateOf (c .reloaded .result) ≡ read (256 * c .before .before .before .args .high + c .before .before .before .args .low)
-heard c =
+reloads-it : (c : tie.After-reloaded) → stateOf (c .reloaded .result) ≡ headerState (256 * c .before .before .before .args .high + c .before .before .before .args .low)
+reloads-it c =
     let s = c .before .before .before in
     let f : SFits w16 (c .before .before .from-halves .result) = search needs in
     c .reloaded .ensures
     ∙ ap₂ state (toZ-ofZ w16 _ f ∙ c .before .before .from-halves .ensures) (c .before .lesser .ensures)
     ∙ bits (s .args .high) (s .args .low) (s .fits .low .fits)
 
-kept : (c : tie.After-keeps) → c .keeps .result ≡ keeps (stateOf (c .before .before .before .before .args .own)) (read (256 * c .before .before .before .before .args .high + c .before .before .before .before .args .low))
-kept c = c .keeps .ensures ∙ ap (keeps (stateOf (c .before .before .before .before .args .own))) (heard (c .before))
+kept : (c : tie.After-keeps) → c .keeps .result ≡ keeps (stateOf (c .before .before .before .before .args .own)) (headerState (256 * c .before .before .before .before .args .high + c .before .before .before .before .args .low))
+kept c = c .keeps .ensures ∙ ap (keeps (stateOf (c .before .before .before .before .args .own))) (reloads-it (c .before))
 
 returns : tie.Need-returns
 unfolding start
@@ -38,7 +38,7 @@ returns c = rw (sym (kept (c .before)) ∙ c .if1 .taken) refl
 
 returns-2 : tie.Need-returns-2
 unfolding start
-returns-2 c = rw (sym (kept (c .before)) ∙ c .if1 .left) (heard (c .before .before))
+returns-2 c = rw (sym (kept (c .before)) ∙ c .if1 .left) (reloads-it (c .before .before))
 
 pub started-spec : {M : Type 1} → statement M
 started-spec = tie.close (tie.spec (λ c. search needs) (λ c κs. search needs) (λ c. search needs) (λ c κs. search needs) (λ c. search needs) (λ c κs. search needs) (λ c κs. search needs) returns returns-2)

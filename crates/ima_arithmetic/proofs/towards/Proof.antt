@@ -39,23 +39,23 @@ small : (p : ℤ) (is : Bool) (d : ℕ) → mag (goal p is d) ≤ 32767
 small p is d = mag-clamp 32767 (cond is (p -ℤ pos d) (p +ℤ pos d))
 
 -- how far it goes
-far : (c : tie.After-fewer) → let a = c .before .before .args in (c .fewer .result ≡ min (a .d) (cond (a .negative) (under (a .predictor)) (over (a .predictor)))) × (c .fewer .result < 65536)
+far : (c : tie.After-lesser-u32) → let a = c .before .before .args in (c .lesser-u32 .result ≡ min (a .d) (cond (a .negative) (under (a .predictor)) (over (a .predictor)))) × (c .lesser-u32 .result < 65536)
 far c =
     let a = c .before .before .args in
     let f = c .before .before .fits .predictor in
     let room = c .before .room .ensures in
     let is = room .0 ∙ ap (λ (p : ℤ). cond (a .negative) (under p) (over p)) (toZ-ofZ w16 _ f) in
-    (c .fewer .ensures ∙ ap (min (a .d)) is, omega (arith, c .fewer .ensures, room .1))
+    (c .lesser-u32 .ensures ∙ ap (min (a .d)) is, omega (arith, c .lesser-u32 .ensures, room .1))
 
 -- the two sums
 abbrev lowered : tie.Then1 → ℤ
-lowered c = toZ w32 (ofZ w32 (toZ w16 (ofZ w16 (c .before .before .before .args .predictor)))) -ℤ toZ w32 (c .before .fewer .result)
+lowered c = toZ w32 (ofZ w32 (toZ w16 (ofZ w16 (c .before .before .before .args .predictor)))) -ℤ toZ w32 (c .before .lesser-u32 .result)
 
 abbrev raised : tie.Else1 → ℤ
-raised c = toZ w32 (ofZ w32 (toZ w16 (ofZ w16 (c .before .before .before .args .predictor)))) +ℤ toZ w32 (c .before .fewer .result)
+raised c = toZ w32 (ofZ w32 (toZ w16 (ofZ w16 (c .before .before .before .args .predictor)))) +ℤ toZ w32 (c .before .lesser-u32 .result)
 
 -- the predictor and that far is what is aimed at, on either side
-reaches : (c : tie.After-fewer) → let a = c .before .before .args in a .predictor +ℤ signed (a .negative) (c .fewer .result) ≡ goal (a .predictor) (a .negative) (a .d)
+reaches : (c : tie.After-lesser-u32) → let a = c .before .before .args in a .predictor +ℤ signed (a .negative) (c .lesser-u32 .result) ≡ goal (a .predictor) (a .negative) (a .d)
 reaches c =
     let a = c .before .before .args in
     ap (λ (k : ℕ). a .predictor +ℤ signed (a .negative) k) (far c .0) ∙ sym (step-is (a .predictor) (c .before .before .fits .predictor) (a .d) (a .negative))
@@ -63,13 +63,13 @@ reaches c =
 down : (c : tie.Then1) → let a = c .before .before .before .args in lowered c ≡ goal (a .predictor) (a .negative) (a .d)
 down c =
     let s = c .before .before .before in
-    let n = c .before .fewer .result in
+    let n = c .before .lesser-u32 .result in
     minus (s .args .predictor) (s .fits .predictor) n (far (c .before) .1) ∙ below (s .args .predictor) n (s .args .negative) (c .if1 .taken) ∙ reaches (c .before)
 
 up : (c : tie.Else1) → let a = c .before .before .before .args in raised c ≡ goal (a .predictor) (a .negative) (a .d)
 up c =
     let s = c .before .before .before in
-    let n = c .before .fewer .result in
+    let n = c .before .lesser-u32 .result in
     plus (s .args .predictor) (s .fits .predictor) n (far (c .before) .1) ∙ above (s .args .predictor) n (s .args .negative) (c .if1 .left) ∙ reaches (c .before)
 
 small-down : (c : tie.Then1) → mag (lowered c) ≤ 32767

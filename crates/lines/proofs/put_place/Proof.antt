@@ -8,7 +8,7 @@ use Rattle.loss.specs.declared.First.{First}
 use Rattle.loss.specs.Loss.{placeOf}
 use Rattle.text.specs.Text.{putIn, placeAfter}
 use Rattle.text.proofs.Decimal.{ten-digits}
-use Rattle.lines.specs.Lines.{place}
+use Rattle.lines.specs.Lines.{placeText}
 use Rattle.lines.proofs.put_place.Statement.{statement}
 use Rattle.lines.proofs.put_place.Tie as tie
 
@@ -16,18 +16,18 @@ returns : tie.Need-returns
 returns c =
     let a = c .before .before .before .before .before .args in
     let is = sym (c .before .before .before .first .given .1) in (
-      c .put-decimal .ensures .0 ∙ ap (λ (first : First). placeAfter (a .out .now) (a .at) (place (placeOf first))) is,
-      c .put-decimal .ensures .1 ∙ ap (λ (first : First). putIn (a .out .now) (a .at) (place (placeOf first))) is,
-      subst (λ (first : First). length (place (placeOf first)) ≤ 10) is (ten-digits _ (search needs)),
+      c .put-decimal .ensures .0 ∙ ap (λ (first : First). placeAfter (a .out .now) (a .at) (placeText (placeOf first))) is,
+      c .put-decimal .ensures .1 ∙ ap (λ (first : First). putIn (a .out .now) (a .at) (placeText (placeOf first))) is,
+      subst (λ (first : First). length (placeText (placeOf first)) ≤ 10) is (ten-digits _ (search needs)),
     )
 
 returns-2 : tie.Need-returns-2
 returns-2 c =
     let a = c .before .before .before .before .before .args in
     let is = sym (c .before .before .before .enum-told .given .1) in (
-      c .put .ensures .0 ∙ ap (λ (first : First). placeAfter (a .out .now) (a .at) (place (placeOf first))) is,
-      c .put .ensures .1 ∙ ap (λ (first : First). putIn (a .out .now) (a .at) (place (placeOf first))) is,
-      subst (λ (first : First). length (place (placeOf first)) ≤ 10) is (omega arith),
+      c .put .ensures .0 ∙ ap (λ (first : First). placeAfter (a .out .now) (a .at) (placeText (placeOf first))) is,
+      c .put .ensures .1 ∙ ap (λ (first : First). putIn (a .out .now) (a .at) (placeText (placeOf first))) is,
+      subst (λ (first : First). length (placeText (placeOf first)) ≤ 10) is (omega arith),
     )
 
 pub put-place-spec : {M : Type 1} → statement M

@@ -8,7 +8,7 @@ use mir.Val.{SFits}
 use mir.ValLaws.{toZ-ofZ}
 use borrow.Author.Needs.{needs}
 use Rattle.loss.specs.Loss.{distance, firstFrom}
-use Rattle.loss.specs.Seen.{rest}
+use Rattle.loss.specs.Private.{rest}
 use Rattle.loss.proofs.Places.{here, not-here, nowhere}
 use Rattle.loss.proofs.first_from.Statement.{statement}
 use Rattle.loss.proofs.first_from.Tie as tie

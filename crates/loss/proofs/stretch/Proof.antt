@@ -31,7 +31,7 @@ loop-again c =
     let g : SFits w16 (getD (a .after .now) i (pos 0)) = search needs in
     let d-is = c .before .before .distance .ensures ∙ ap₂ distance (toZ-ofZ w16 _ f) (toZ-ofZ w16 _ g) in
     let kept = one-more (a .before .now) (a .after .now) (at .before .pre .0) i (search needs) (at .loop .inv .0) in
-    (kept d-is (c .before .differs .ensures .0) (c .farther .ensures), search needs, search needs)
+    (kept d-is (c .before .differs .ensures .0) (c .larger-u16 .ensures), search needs, search needs)
 
 returns : tie.Need-returns Inv-loop μ-loop
 returns c =

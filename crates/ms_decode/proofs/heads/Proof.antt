@@ -12,7 +12,7 @@ use Rattle.num.proofs.Lists.{map-set}
 use Rattle.ima_step.specs.View.{wideOf}
 use Rattle.ms_block.specs.Sizes.{most}
 use Rattle.ms_block.proofs.Sizes.{Shape, shape, samples-all}
-use Rattle.ms_decode.specs.Progress.{Headed}
+use Rattle.ms_decode.specs.Private.{Headed}
 use Rattle.ms_block.proofs.OwnBytes.{head-is}
 use Rattle.ms_decode.proofs.Read.{heads-turn}
 use Rattle.ms_decode.proofs.heads.Statement.{statement}

@@ -1,11 +1,13 @@
 -- `record::read` meets its contract: a block has room in the array. Assumes nothing.
 use mathlib.Core.Path.{_≡_, refl, sym, ap₂, _∙_}
 use mathlib.Core.Bool.{true}
-use Prim.Native.Nat.{_≤_}
+use mathlib.Core.List.{List}
+use Prim.Native.Nat.{ℕ, _≤_}
 use native.Mathlib.Omega.{arith}
 use lib.ListN.{length}
 use borrow.Author.Needs.{needs}
-use Rattle.record.specs.Record.{channelsOf, wellFormed, held, readRecord}
+use Rattle.num.specs.Outcome.{outcome}
+use Rattle.record.specs.Record.{channelsOf, wellFormed, readRecord}
 use Rattle.record.proofs.Formed.{formed, part-place, part-put}
 use Rattle.record.proofs.read.Statement.{statement}
 use Rattle.record.proofs.read.Tie as tie
@@ -25,7 +27,7 @@ returns c =
     let size : length (a .block .now) ≡ 4096 = search needs in
     let is = formed (a .input .now) (is-formed s) in
     let (place, buffer) = c .put .ensures in
-    rw (is-formed s) (ap₂ (held 0 (channelsOf (a .input .now))) (place ∙ part-place (a .input .now) is (a .block .now) size) (buffer ∙ part-put (a .input .now) is (a .block .now) size))
+    rw (is-formed s) (ap₂ (λ (n : ℕ) (bs : List ℕ). outcome 0 (channelsOf (a .input .now), n) bs) (place ∙ part-place (a .input .now) is (a .block .now) size) (buffer ∙ part-put (a .input .now) is (a .block .now) size))
 
 returns-2 : tie.Need-returns-2
 unfolding readRecord

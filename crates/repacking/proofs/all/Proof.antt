@@ -6,7 +6,7 @@ use lib.ListN.{length}
 use borrow.Author.Needs.{needs}
 use Rattle.ms_block.specs.Sizes.{samplesOf}
 use Rattle.ms_block.proofs.Sizes.{shape}
-use Rattle.ms_repacked.specs.Progress.{Upto}
+use Rattle.ms_repacked.specs.Private.{Upto}
 use Rattle.ms_repacked.proofs.Midway.{ends}
 use Rattle.repacking.proofs.all.Statement.{statement}
 use Rattle.repacking.proofs.all.Tie as tie

@@ -7,7 +7,7 @@ use lib.ListN.{length}
 use borrow.Author.Needs.{needs}
 use borrow.Author.Tests.{ne-eqb}
 use Rattle.ms_block.specs.Sizes.{repackRefusal}
-use Rattle.ms_repacked.specs.Progress.{Alike}
+use Rattle.ms_repacked.specs.Private.{Alike}
 use Rattle.ms_repacked.specs.Repack.{differ, answered, repackBlock}
 use Rattle.ms_repacked.proofs.Theorems.{allowed}
 use Rattle.repacking.proofs.repack_adpcm_ima_ms.Statement.{statement}

@@ -8,15 +8,12 @@ use mir.ValLaws.{toZ-ofZ}
 use borrow.Author.Needs.{needs}
 use borrow.Author.Tests.{eq-eqb, ne-eqb}
 use Rattle.adpcm_ima.specs.View.{sameZ}
+use Rattle.adpcm_ima.proofs.View.{sameZ-itself}
 use Rattle.adpcm_ima.proofs.AdpcmImaState.same.Statement.{statement}
 use Rattle.adpcm_ima.proofs.AdpcmImaState.same.Tie as tie
 
-itself : (a : ℤ) → sameZ a a ≡ true
-itself (pos n) = eq-eqb n n refl
-itself (negsuc n) = eq-eqb n n refl
-
 equal : (a b : ℤ) → SFits w16 a → SFits w16 b → ofZ w16 a ≡ ofZ w16 b → sameZ a b ≡ true
-equal a b f g e = ap (sameZ a) (sym (toZ-ofZ w16 b g) ∙ ap (toZ w16) (sym e) ∙ toZ-ofZ w16 a f) ∙ itself a
+equal a b f g e = ap (sameZ a) (sym (toZ-ofZ w16 b g) ∙ ap (toZ w16) (sym e) ∙ toZ-ofZ w16 a f) ∙ sameZ-itself a
 
 unequal : (a b : ℤ) → (ofZ w16 a ≡ ofZ w16 b → ⊥) → sameZ a b ≡ false
 unequal (pos a) (pos b) n = ne-eqb a b (λ e. n (ap (λ k. ofZ w16 (pos k)) e))

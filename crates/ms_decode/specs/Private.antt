@@ -1,4 +1,4 @@
--- What the private functions hand on to each other in the midst of a block. Assumes nothing.
+-- What only private functions and loops need: what they hand on to each other in the midst of a block. Assumes nothing.
 use mathlib.Core.Path.{_≡_}
 use mathlib.Core.List.{List}
 use Prim.Native.Nat.{ℕ, _<_}

@@ -1,4 +1,4 @@
--- What the code keeps while it looks. Assumes nothing.
+-- What only private functions and loops need: what the code keeps while it looks. Assumes nothing.
 use mathlib.Core.Path.{_≡_}
 use mathlib.Core.Bool.{cond}
 use mathlib.Core.List.{List}

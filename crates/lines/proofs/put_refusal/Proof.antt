@@ -1,4 +1,4 @@
--- `lines::refused` meets its contract: three texts, each behind the one before. Assumes nothing.
+-- `lines::put_refusal` meets its contract: three texts, each behind the one before. Assumes nothing.
 use mathlib.Core.Path.{_≡_}
 use mathlib.Core.List.{[], _++_}
 use native.Mathlib.Omega.{arith}
@@ -7,8 +7,8 @@ use borrow.Author.Needs.{needs}
 use Rattle.text.specs.Text.{ascii, decimal}
 use Rattle.text.proofs.Behind.{stands-none, stands-more}
 use Rattle.text.proofs.Decimal.{ten-digits}
-use Rattle.lines.proofs.refused.Statement.{statement}
-use Rattle.lines.proofs.refused.Tie as tie
+use Rattle.lines.proofs.put_refusal.Statement.{statement}
+use Rattle.lines.proofs.put_refusal.Tie as tie
 
 returns : tie.Need-returns
 returns c =
@@ -23,8 +23,8 @@ returns c =
     let s₂ = stands-more out 0 word (decimal (a .number)) (c .before .before .before .before .before .put .result) (c .before .before .before .put-decimal .result) (c .before .before .before .before .before .put .last .0) (c .before .before .before .put-decimal .last .0) (omega (arith, room, few, long)) s₁ (c .before .before .before .put-decimal .ensures .0) (c .before .before .before .put-decimal .ensures .1) in
     stands-more out 0 text (ascii "\n") (c .before .before .before .put-decimal .result) (c .put2 .result) (c .before .before .before .put-decimal .last .0) (c .put2 .last .0) (omega (arith, room, few, long, length-append text (ascii "\n"))) s₂ (c .put2 .ensures .0) (c .put2 .ensures .1)
 
-pub refused-spec : {M : Type 1} → statement M
-refused-spec =
+pub put-refusal-spec : {M : Type 1} → statement M
+put-refusal-spec =
     tie.close
     (tie.spec
     (λ c. search needs)

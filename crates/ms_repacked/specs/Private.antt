@@ -1,4 +1,4 @@
--- What is known between the channels of a block that is being repacked. Assumes nothing.
+-- What only private functions and loops need: what is known between the channels of a block that is being repacked. Assumes nothing.
 use mathlib.Core.Path.{_≡_}
 use mathlib.Core.List.{List}
 use Prim.Native.Nat.{ℕ, _+_, _*_, _/_, _<_}
