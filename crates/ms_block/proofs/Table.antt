@@ -1,4 +1,4 @@
--- The document's table of lengths, as equations of the general definitions.
+-- The scope's table of lengths, as equations of the general definitions.
 -- Block length n: mono 4 to 65,535; stereo 8 to 65,528, divisible by 8; samples 2n-7, 2n-14. Assumes nothing.
 use mathlib.Core.Path.{_≡_, refl}
 use mathlib.Core.Bool.{Bool, false, _&&_, _||_, and-true, and-false}

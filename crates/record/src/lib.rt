@@ -1,4 +1,4 @@
-// The record that the program `repack` reads, and what it prints.
+// The record that the program `repack` reads.
 use text::put;
 ghost use mathlib.Core.Path.{_≡_};
 ghost use Prim.Native.Nat.{_+_, _*_};

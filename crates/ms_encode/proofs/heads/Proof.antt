@@ -44,12 +44,19 @@ inside c =
     let h : 4 * c .before .loop .ch + 3 < length (c .before .loop .out-buf) = omega (arith, c .loop-test .taken, inv .1 .enough) in
     (omega (arith, h), omega (arith, h), omega (arith, h), h)
 
+-- the loop's test, from behind the bits
+abbrev tested : tie.After-bits-of Inv-loop μ-loop → tie.In-loop Inv-loop μ-loop
+tested c = c .before .before .before
+
 loop-again : tie.Need-loop-again Inv-loop μ-loop
 loop-again c =
-    let at = c .before .before .before .before .before in
+    let at-bits = c .before .before .before in
+    let read = at-bits .before .before in
+    let test = tested at-bits in
+    let at = test .before in
     let a = at .before .before .args in
     let inv = at .loop .inv in
-    let h = c .before .before .before .before .loop-test .taken in
+    let h = test .loop-test .taken in
     let ch = at .loop .ch in
     let out = at .loop .out-buf in
     let states = at .loop .states in
@@ -57,18 +64,21 @@ loop-again c =
     let samples = a .samples .now in
     let d : AdpcmImaState = record { predictor = pos 0; «step_index» = 0 } in
     let st = getD states ch d in
-    let bits = c .before .bits-of in
-    let f : SFits w16 (getD samples ch (pos 0)) = search (needs, c .before .before .before .first .given) in
+    let bits = at-bits .bits-of in
+    let low = c .before .before .low-half in
+    let high = c .before .high-half in
+    let high-is : high .result ≡ bits .result / 256 = high .ensures ∙ omega (arith, bits .ensures .1) in
+    let f : SFits w16 (getD samples ch (pos 0)) = search (needs, read .first .given) in
     let is = subst (λ (k : ℕ). Shape (a .c) k (length samples)) (inv .2) (inv .1) in
     let some : ch < length (map stateOf states) = omega (arith, h, inv .1 .few, length-map states stateOf, inv .3) in
-    let long = four-length out (4 * ch) (bits .result % 256) (bits .result / 256) (st .«step_index») 0 in
+    let long = four-length out (4 * ch) (low .result) (high .result) (st .«step_index») 0 in
     let turn =
     begun-turn samples (map stateOf (a .given)) is ch out (map stateOf states) (bits .result) (st .«step_index») (stateOf (c .reloaded .result)) h (inv .2) some
     (bits .ensures .0 ∙ ap bitsOf (toZ-ofZ w16 _ f))
     (ap (λ (s : State). s .index) (sym (List·getD-map stateOf states ch d)))
     (c .reloaded .ensures ∙ ap (λ (z : ℤ). state z (st .«step_index»)) (toZ-ofZ w16 _ f))
     (inv .0) in (
-      rw (map-set stateOf states ch (c .reloaded .result)) turn,
+      rw (map-set stateOf states ch (c .reloaded .result), low .ensures, high-is) turn,
       subst (λ (k : ℕ). Shape (a .c) k (length samples)) (sym long) (inv .1),
       long ∙ inv .2,
       length-set states ch (c .reloaded .result) ∙ inv .3,
@@ -99,19 +109,19 @@ heads-spec =
     (λ c. search needs)
     (λ c. search needs)
     (λ c κs. search needs)
+    (λ c κs. search needs)
+    (λ c. search needs)
+    (λ c. inside (tested (c .before)) .0)
+    (λ c κs. search needs)
     (λ c. search needs)
     (λ c. search needs)
-    (λ c. inside (c .before .before .before) .0)
+    (λ c. search (needs, inside (tested (c .before .before)) .1))
     (λ c. search needs)
     (λ c. search needs)
-    (λ c. search needs)
-    (λ c. search (needs, inside (c .before .before .before) .1))
-    (λ c. search needs)
-    (λ c. search needs)
-    (λ c. search (needs, inside (c .before .before .before) .2))
+    (λ c. search (needs, inside (tested (c .before .before)) .2))
     (λ c. search needs)
     (λ c. search needs)
-    (λ c. search (needs, inside (c .before .before .before) .3))
+    (λ c. search (needs, inside (tested (c .before .before)) .3))
     (λ c κs. search needs)
     (λ c. search needs)
     (λ c. search needs)
