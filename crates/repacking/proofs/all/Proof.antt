@@ -20,22 +20,26 @@ abbrev μ-loop : tie.MeasureT-loop
 loop-holds : tie.Need-loop-holds Inv-loop μ-loop
 loop-holds c = (λ h k l r before. absurd (omega (arith, before)), c .before .before .pre .1, omega arith)
 
+-- the arguments, from the loop
+abbrev begin : tie.At-loop Inv-loop μ-loop → tie.Start Inv-loop μ-loop
+begin c = c .before .before .before
+
 channel-requires : tie.Need-channel-requires Inv-loop μ-loop
 channel-requires c κs =
     let loop = c .before .before in
-    ((loop .before .before .before .pre .0, loop .loop .inv .1), c .before .loop-test .taken, loop .loop .inv .0)
+    ((begin loop .pre .0, loop .loop .inv .1), c .before .loop-test .taken, loop .loop .inv .0)
 
 loop-again : tie.Need-loop-again Inv-loop μ-loop
 loop-again c =
-    let loop = c .before .before .before .before .before in
-    (c .before .before .channel .ensures, c .before .out .given ∙ loop .loop .inv .1, omega (arith, c .before .before .before .before .loop-test .taken))
+    let test = c .before .before .before .before in
+    (c .before .before .channel .ensures, c .before .out .given ∙ test .before .loop .inv .1, omega (arith, test .loop-test .taken))
 
 same-length : tie.Need-same-length Inv-loop μ-loop
-same-length c = c .before .loop .inv .1 ∙ sym (c .before .before .before .before .pre .1)
+same-length c = c .before .loop .inv .1 ∙ sym (begin (c .before) .pre .1)
 
 returns : tie.Need-returns Inv-loop μ-loop
 returns c =
-    let s = c .before .before .before .before in
+    let s = begin (c .before) in
     let a = s .args in
     let n = length (a .block .now) in
     let inv = c .before .loop .inv in

@@ -37,17 +37,26 @@ header-requires c κs = c .before .before .before .pre
 
 loop-holds : tie.Need-loop-holds Inv-loop μ-loop
 loop-holds c =
-    let s = c .before .before .before .before .before .before .before in
-    let made = c .before .before .before .header .ensures in (
-      start (s .args .block .now) (is s) (s .args .ch) (s .pre .1) (c .before .before .before .header .last .1 .1 .1 .0) (wideOf (c .widened .result)) (c .widened .ensures .0 ∙ made .0) (made .1),
+    let header = c .before .before .before in
+    let s = header .before .before .before .before in
+    let made = header .header .ensures in (
+      start (s .args .block .now) (is s) (s .args .ch) (s .pre .1) (header .header .last .1 .1 .1 .0) (wideOf (c .widened .result)) (c .widened .ensures .0 ∙ made .0) (made .1),
       c .before .before .out .given ∙ s .pre .0 .1,
       omega arith,
       four-bytes (is s),
     )
 
+-- the arguments, from the loop
+abbrev begin : tie.At-loop Inv-loop μ-loop → tie.Start Inv-loop μ-loop
+begin c = c .before .before .before .before .before .before .before .before
+
+-- the test of the loop, from behind a turn's last call
+abbrev tested : tie.After-pack Inv-loop μ-loop → tie.In-loop Inv-loop μ-loop
+tested c = c .before .before .before .before .before .before .before .before .before .before .before .before .before .before .before
+
 -- where a byte stands
-there : (c : tie.In-loop Inv-loop μ-loop) → let s = c .before .before .before .before .before .before .before .before .before in (place 4 (s .args .c) (s .args .ch) (c .before .loop .d) < length (s .args .block .now)) × (length (s .args .block .now) ≤ 65535)
-there c = let s = c .before .before .before .before .before .before .before .before .before in (inside-block (s .args .block .now) (is s) (s .args .ch) (c .before .loop .d) (s .pre .1) (c .loop-test .taken), is s .short)
+there : (c : tie.In-loop Inv-loop μ-loop) → let s = begin (c .before) in (place 4 (s .args .c) (s .args .ch) (c .before .loop .d) < length (s .args .block .now)) × (length (s .args .block .now) ≤ 65535)
+there c = let s = begin (c .before) in (inside-block (s .args .block .now) (is s) (s .args .ch) (c .before .loop .d) (s .pre .1) (c .loop-test .taken), is s .short)
 
 mul-at : tie.Need-mul-at Inv-loop μ-loop
 mul-at c = omega (arith, there c)
@@ -65,52 +74,60 @@ shared-slice-read-byte : tie.Need-shared-slice-read-byte Inv-loop μ-loop
 shared-slice-read-byte c = there (c .before) .0
 
 slice-write-out : tie.Need-slice-write-out Inv-loop μ-loop
-slice-write-out c = omega (arith, there (c .before .before .before .before .before .before .before .before .before .before .before .before .before .before .before), c .before .before .before .before .before .before .before .before .before .before .before .before .before .before .before .before .loop .inv .1)
+slice-write-out c = let test = tested c in omega (arith, there test, test .before .loop .inv .1)
 
 add-d : tie.Need-add-d Inv-loop μ-loop
-add-d c = let a = c .before .before .before .before .before .before .before .before .before .before .before .before .before .before .before .before .before .before .before .before .before .before .before .before .args in omega (arith, there (c .before .before .before .before .before .before .before .before .before .before .before .before .before .before .before), c .before .before .before .before .before .before .before .before .before .before .before .before .before .before .before .loop-test .taken, div-le-self (length (a .block .now)) (a .c))
+add-d c =
+    let test = tested c in
+    let a = begin (test .before) .args in
+    omega (arith, there test, test .loop-test .taken, div-le-self (length (a .block .now)) (a .c))
 
 loop-less : tie.Need-loop-less Inv-loop μ-loop
-loop-less c = omega (arith, c .before .before .before .before .before .before .before .before .before .before .before .before .before .before .before .loop-test .taken)
+loop-less c = omega (arith, tested c .loop-test .taken)
 
 loop-again : tie.Need-loop-again Inv-loop μ-loop
 unfolding imaSteps
 loop-again c =
-    let loop = c .before .before .before .before .before .before .before .before .before .before .before .before .before .before .before .before .loop in
-    let s = c .before .before .before .before .before .before .before .before .before .before .before .before .before .before .before .before .before .before .before .before .before .before .before .before in
-    let a = s .args in
-    let between = c .before .before .before .before .before .before .before .before .before .before .before .moved .result in
-    let after = c .before .before .before .before .before .before .before .before .moved2 .result in
-    let first = c .before .before .before .before .before .coded .result in
-    let second = c .before .before .coded2 .result in
+    let at-second = c .before .before in
+    let at-first = at-second .before .before .before in
+    let at-high = at-first .before .before .before in
+    let at-low = at-high .before .before .before in
+    let between = at-low .moved .result in
+    let after = at-high .moved2 .result in
     let f : SFits w16 (between .predictor) = search needs in
     let g : SFits w16 (after .predictor) = search needs in
-    let byte = getD (a .block .now) (place 4 (a .c) (a .ch) (loop .d)) 0 in
-    let packed : c .pack .result ≡ 16 * second .nibble + first .nibble = c .pack .ensures ∙ omega (arith, c .before .before .before .before .before .coded .ensures .1, c .before .before .coded2 .ensures .1) in
-    let next : suc (loop .d) ≡ loop .d + 1 = omega arith in (
-      subst (λ (d : ℕ). Midway (a .c) (a .block .now) (a .ch) d (set (loop .out) (place 4 (a .c) (a .ch) (loop .d)) (c .pack .result)) (wideOf after) (wideOf (second .next))) next
-          (subst (λ (byte : ℕ). Midway (a .c) (a .block .now) (a .ch) (suc (loop .d)) (set (loop .out) (place 4 (a .c) (a .ch) (loop .d)) byte) (wideOf after) (wideOf (second .next))) (sym packed)
-          (turn (a .block .now) (is s) (a .ch) (s .pre .1) (loop .d) byte (first .nibble) (second .nibble) (loop .out)
-          (wideOf (loop .reads)) (wideOf between) (wideOf after) (wideOf (loop .writes)) (wideOf (first .next)) (wideOf (second .next))
-          (loop .inv .2) (c .before .before .before .before .before .before .before .before .before .before .before .before .before .before .before .loop-test .taken) (loop .inv .1) refl
-          (c .before .before .before .before .before .before .before .before .before .before .before .moved .ensures ∙ ap (stepped sixteen imaSteps (wideOf (loop .reads))) (c .before .before .before .before .before .before .before .before .before .before .before .before .low-nibble .ensures))
-          (c .before .before .before .before .before .before .before .before .moved2 .ensures ∙ ap (stepped sixteen imaSteps (wideOf between)) (c .before .before .before .before .before .before .before .before .before .high-nibble .ensures))
-          (c .before .before .before .before .before .coded .ensures .0 ∙ ap (emitted sixteen imaSteps (wideOf (loop .writes))) (toZ-ofZ w16 _ f))
-          (c .before .before .before .before .before .coded .ensures .2)
-          (c .before .before .coded2 .ensures .0 ∙ ap (emitted sixteen imaSteps (wideOf (first .next))) (toZ-ofZ w16 _ g))
-          (c .before .before .coded2 .ensures .2)
-          (loop .inv .0))),
-      length-set (loop .out) (place 4 (a .c) (a .ch) (loop .d)) (c .pack .result) ∙ loop .inv .1,
+    let first = at-first .coded in
+    let second = at-second .coded2 in
+    let test = tested c in
+    let loop = test .before .loop in
+    let s = begin (test .before) in
+    let a = s .args in
+    let p = place 4 (a .c) (a .ch) (loop .d) in
+    let read = wideOf (loop .reads) in
+    let write = wideOf (loop .writes) in
+    let low-is = at-low .moved .ensures ∙ ap (stepped sixteen imaSteps read) (at-low .before .low-nibble .ensures) in
+    let high-is = at-high .moved2 .ensures ∙ ap (stepped sixteen imaSteps (wideOf between)) (at-high .before .high-nibble .ensures) in
+    let first-is = first .ensures .0 ∙ ap (emitted sixteen imaSteps write) (toZ-ofZ w16 _ f) in
+    let second-is = second .ensures .0 ∙ ap (emitted sixteen imaSteps (wideOf (first .result .next))) (toZ-ofZ w16 _ g) in
+    let packed : c .pack .result ≡ 16 * second .result .nibble + first .result .nibble = c .pack .ensures ∙ omega (arith, first .ensures .1, second .ensures .1) in
+    let next : suc (loop .d) ≡ loop .d + 1 = omega arith in
+    let Behind : ℕ → ℕ → Type 0 = λ d byte. Midway (a .c) (a .block .now) (a .ch) d (set (loop .out) p byte) (wideOf after) (wideOf (second .result .next)) in
+    let once =
+    turn (a .block .now) (is s) (a .ch) (s .pre .1) (loop .d) (getD (a .block .now) p 0) (first .result .nibble) (second .result .nibble) (loop .out)
+    read (wideOf between) (wideOf after) write (wideOf (first .result .next)) (wideOf (second .result .next))
+    (loop .inv .2) (test .loop-test .taken) (loop .inv .1) refl low-is high-is first-is (first .ensures .2) second-is (second .ensures .2) (loop .inv .0) in (
+      subst (λ (d : ℕ). Behind d (c .pack .result)) next (subst (Behind (suc (loop .d))) (sym packed) once),
+      length-set (loop .out) p (c .pack .result) ∙ loop .inv .1,
       omega (arith, loop .inv .2),
-      omega (arith, c .before .before .before .before .before .before .before .before .before .before .before .before .before .before .before .loop-test .taken),
+      omega (arith, test .loop-test .taken),
     )
 
 same-length : tie.Need-same-length Inv-loop μ-loop
-same-length c = c .before .loop .inv .1 ∙ sym (c .before .before .before .before .before .before .before .before .before .pre .0 .1)
+same-length c = c .before .loop .inv .1 ∙ sym (begin (c .before) .pre .0 .1)
 
 returns : tie.Need-returns Inv-loop μ-loop
 returns c =
-    let s = c .before .before .before .before .before .before .before .before .before in
+    let s = begin (c .before) in
     let a = s .args in
     let loop = c .before .loop in
     let whole : loop .d ≡ length (a .block .now) / a .c = omega (arith, c .loop-test .left, loop .inv .3) in

@@ -1,6 +1,6 @@
 -- `repacking::header` meets its contract: its four bytes are those of the state that it was read as. Assumes nothing.
 use mathlib.Core.Path.{_≡_, sym, ap, _∙_}
-use Prim.Native.Nat.{ℕ, _+_, _*_, _/_, _%_, _≤_}
+use Prim.Native.Nat.{ℕ, _+_, _*_, _/_, _≤_}
 use native.Mathlib.Omega.{arith}
 use lib.ListN.{length, set, length-set}
 use mir.Syntax.{w16}
@@ -24,13 +24,15 @@ is c = let a = c .args in let n = length (a .block .now) in shape (a .c) n (samp
 room : (c : tie.Start) → (4 * c .args .ch + 4 ≤ length (c .args .block .now)) × (length (c .args .block .now) ≤ 65535) × (length (c .args .out .now) ≡ length (c .args .block .now))
 room c = (fourth (c .args .block .now) (is c) (c .args .ch) (c .pre .1), is c .short, c .pre .0 .1)
 
--- the bytes of the header
-abbrev low : ℕ → ℕ
-low bits = bits % 256
+-- the arguments, from behind the bits
+abbrev start : tie.After-bits-of → tie.Start
+start c = c .before .before .before .before .before .before .before .before
 
-abbrev high : ℕ → ℕ
-high bits = bits / 256
+-- the second byte of the header is the upper half of the bits
+high-is : (c : tie.After-high-half) → c .high-half .result ≡ c .before .before .bits-of .result / 256
+high-is c = c .high-half .ensures ∙ omega (arith, c .before .before .bits-of .ensures .1)
 
+-- the third byte of the header
 abbrev index : AdpcmImaState → ℕ
 index state = state .«step_index»
 
@@ -44,53 +46,61 @@ add-head : tie.Need-add-head
 add-head c = omega (arith, room (c .before .before .before))
 
 shared-slice-read-head-2 : tie.Need-shared-slice-read-head-2
-shared-slice-read-head-2 c = omega (arith, room (c .before .before .before .before))
+shared-slice-read-head-2 c = let s = c .before .before .before .before in omega (arith, room s)
 
 add-head-2 : tie.Need-add-head-2
-add-head-2 c = omega (arith, room (c .before .before .before .before))
+add-head-2 c = let s = c .before .before .before .before in omega (arith, room s)
 
 shared-slice-read-head-3 : tie.Need-shared-slice-read-head-3
-shared-slice-read-head-3 c = omega (arith, room (c .before .before .before .before .before))
+shared-slice-read-head-3 c = let s = c .before .before .before .before .before in omega (arith, room s)
 
 slice-write-out : tie.Need-slice-write-out
-slice-write-out c = omega (arith, room (c .before .before .before .before .before .before .before .before))
+slice-write-out c = omega (arith, room (start (c .before)))
 
 add-out : tie.Need-add-out
-add-out c = omega (arith, room (c .before .before .before .before .before .before .before .before))
+add-out c = omega (arith, room (start (c .before .before)))
 
 slice-write-out-2 : tie.Need-slice-write-out-2
-slice-write-out-2 c = omega (arith, room (c .before .before .before .before .before .before .before .before), length-set (c .before .before .before .before .before .before .before .before .args .out .now) (4 * c .before .before .before .before .before .before .before .before .args .ch) (low (c .bits-of .result)))
+slice-write-out-2 c =
+    let s = start (c .before .before) in
+    omega (arith, room s, length-set (s .args .out .now) (4 * s .args .ch) (c .before .low-half .result))
 
 add-out-2 : tie.Need-add-out-2
-add-out-2 c = omega (arith, room (c .before .before .before .before .before .before .before .before))
+add-out-2 c = omega (arith, room (start (c .before .before)))
 
 slice-write-out-3 : tie.Need-slice-write-out-3
 slice-write-out-3 c =
-    let s = c .before .before .before .before .before .before .before .before in
+    let s = start (c .before .before) in
     let at = 4 * s .args .ch in
-    let o₁ = set (s .args .out .now) at (low (c .bits-of .result)) in
-    omega (arith, room s, length-set (s .args .out .now) at (low (c .bits-of .result)), length-set o₁ (at + 1) (high (c .bits-of .result)))
+    let low = c .before .low-half .result in
+    let o₁ = set (s .args .out .now) at low in
+    omega (arith, room s, length-set (s .args .out .now) at low, length-set o₁ (at + 1) (c .high-half .result))
 
 add-out-3 : tie.Need-add-out-3
-add-out-3 c = omega (arith, room (c .before .before .before .before .before .before .before .before))
+add-out-3 c = omega (arith, room (start (c .before .before)))
 
 slice-write-out-4 : tie.Need-slice-write-out-4
 slice-write-out-4 c =
-    let s = c .before .before .before .before .before .before .before .before in
+    let bits = c .before .before in
+    let s = start bits in
     let at = 4 * s .args .ch in
-    let o₁ = set (s .args .out .now) at (low (c .bits-of .result)) in
-    let o₂ = set o₁ (at + 1) (high (c .bits-of .result)) in
-    omega (arith, room s, length-set (s .args .out .now) at (low (c .bits-of .result)), length-set o₁ (at + 1) (high (c .bits-of .result)), length-set o₂ (at + 2) (index (c .before .before .head .result)))
+    let low = c .before .low-half .result in
+    let high = c .high-half .result in
+    let o₁ = set (s .args .out .now) at low in
+    let o₂ = set o₁ (at + 1) high in
+    omega (arith, room s, length-set (s .args .out .now) at low, length-set o₁ (at + 1) high, length-set o₂ (at + 2) (index (bits .before .before .head .result)))
 
 returns : tie.Need-returns
 returns c =
-    let s = c .before .before .before .before .before .before .before .before in
+    let bits = c .before .before in
+    let s = start bits in
     let a = s .args in
     let block = a .block .now in
-    let st = c .before .before .head .result in
-    let f : SFits w16 (st .predictor) = search needs in
-    let own = c .before .before .head .ensures ∙ sym (head-is block (is s) (a .ch) (s .pre .1)) in
-    (own, header-put block (is s) (a .ch) (s .pre .1) (a .out .now) (stateOf st) (c .bits-of .result) (s .pre .0 .1) own (c .bits-of .ensures .0 ∙ ap bitsOf (toZ-ofZ w16 _ f)) (s .pre .2))
+    let head = bits .before .before .head in
+    let f : SFits w16 (head .result .predictor) = search needs in
+    let own = head .ensures ∙ sym (head-is block (is s) (a .ch) (s .pre .1)) in
+    let bits-is = bits .bits-of .ensures .0 ∙ ap bitsOf (toZ-ofZ w16 _ f) in
+    (own, rw (c .before .low-half .ensures, high-is c) (header-put block (is s) (a .ch) (s .pre .1) (a .out .now) (stateOf (head .result)) (bits .bits-of .result) (s .pre .0 .1) own bits-is (s .pre .2)))
 
 pub header-spec : {M : Type 1} → statement M
 header-spec =
@@ -104,9 +114,9 @@ header-spec =
     shared-slice-read-head-3
     (λ c κs. search needs)
     (λ c κs. search needs)
-    (λ c. search needs)
+    (λ c κs. search needs)
     slice-write-out
-    (λ c. search needs)
+    (λ c κs. search needs)
     add-out
     slice-write-out-2
     add-out-2
