@@ -9,57 +9,58 @@ use lib.ListN.{length, take, drop, length-append, length-drop}
 use lib.Seq.{take-at, length-take-le}
 use borrow.Author.Tests.{ne-eqb, eqb-true}
 use borrow.Table.Steps.{cases}
+use Rattle.num.specs.Outcome.{outcome}
 use Rattle.ms_block.specs.Sizes.{samplesOf, repackRefusal}
 use Rattle.ms_block.proofs.Sizes.{shape}
-use Rattle.ms_repacked.specs.Repack.{repacked, anyChange, answered, repackMs}
+use Rattle.ms_repacked.specs.Repack.{repacked, anyChange, repackMs}
 use Rattle.ms_repacked.proofs.Settled.{repacked-length}
 use Rattle.ms_repacked.proofs.Theorems.{allowed}
 use Rattle.text.specs.Text.{ascii, hex, line, Stands}
-use Rattle.lines.specs.Lines as Lines
-use Rattle.answer.specs.Answer as Says
-use Rattle.answer.specs.Answer.{Small, said, lossOf}
+use Rattle.lines.specs.Lines.{refusalLine}
+use Rattle.answer.specs.Answer.{lossOf, firstLine, bothLines, answerFor}
+use Rattle.answer.specs.Private.{Small}
 
 -- the number that repacking answers
-refusal-is : (c : ℕ) (block out : List ℕ) → repackMs c block out .refusal ≡ repackRefusal c (length block) (length out)
+refusal-is : (c : ℕ) (block out : List ℕ) → repackMs c block out .number ≡ repackRefusal c (length block) (length out)
 unfolding repackMs
 refusal-is c block out =
     let number = repackRefusal c (length block) (length out) in
     cases (eqb number 0) (λ t. rw t (sym (eqb-true number 0 t))) (λ t. rw t refl)
 
 -- the array begins with the new block
-pub record Made (c : ℕ) (block : List ℕ) (differs : Bool) (xs : List ℕ) : Type 0 where
+pub record Made (c : ℕ) (block : List ℕ) (changed : Bool) (xs : List ℕ) : Type 0 where
   pub small : Small c block
   pub size : length xs ≡ 4096
-  pub says : let new = take (length block) xs in Says.answered c block ≡ line (said differs (lossOf c block new) ++ hex new)
+  pub says : let new = take (length block) xs in answerFor c block ≡ line (firstLine changed (lossOf c block new) ++ hex new)
 
-module _ (c : ℕ) (block out xs : List ℕ) (k : ℕ) (differs : Bool) (few : length block ≤ 4096) (room : length out ≡ 4096)
-    (e : answered k differs xs ≡ repackMs c block (take (length block) out)) where
+module _ (c : ℕ) (block out xs : List ℕ) (k : ℕ) (changed : Bool) (few : length block ≤ 4096) (room : length out ≡ 4096)
+    (e : outcome k changed xs ≡ repackMs c block (take (length block) out)) where
   long : length (take (length block) out) ≡ length block
   long = length-take-le (length block) out (omega (arith, few, room))
 
   number : k ≡ repackRefusal c (length block) (length block)
-  number = ap (λ r. r .refusal) e ∙ refusal-is c block (take (length block) out) ∙ ap (repackRefusal c (length block)) long
+  number = ap (λ r. r .number) e ∙ refusal-is c block (take (length block) out) ∙ ap (repackRefusal c (length block)) long
 
-  pub refuses : (k ≡ 0 → ⊥) → Says.answered c block ≡ Lines.refused k
-  unfolding Says.answered
+  pub refuses : (k ≡ 0 → ⊥) → answerFor c block ≡ refusalLine k
+  unfolding answerFor
   refuses h =
       let other : repackRefusal c (length block) (length block) ≡ 0 → ⊥ = λ z. h (number ∙ z) in
       rw (ne-eqb (repackRefusal c (length block) (length block)) 0 other, ← number) refl
 
-  pub made : k ≡ 0 → Made c block differs (xs ++ drop (length block) out)
-  unfolding repackMs Says.answered Says.told
+  pub made : k ≡ 0 → Made c block changed (xs ++ drop (length block) out)
+  unfolding repackMs answerFor bothLines
   made done =
       let n = length block in
       let taken : repackRefusal c n n ≡ 0 = sym number ∙ done in
       let small : Small c block = (allowed c n n taken .0, few) in
-      let result : answered k differs xs ≡ answered 0 (anyChange block (repacked c block)) (repacked c block) = e ∙ rw (long, taken) refl in
+      let result : outcome k changed xs ≡ outcome 0 (anyChange block (repacked c block)) (repacked c block) = e ∙ rw (long, taken) refl in
       let xs-are = ap (λ r. r .buffer) result in
       let many = ap length xs-are ∙ repacked-length block (shape c n (samplesOf c n) (small .0)) in
       let new-is = take-at xs (drop n out) n many ∙ xs-are in
       record {
         small = small;
         size = length-append xs (drop n out) ∙ omega (arith, many, few, room, length-drop n out);
-        says = rw (taken, new-is, ← (ap (λ r. r .changed) result)) (sym (append-assoc (said differs (lossOf c block (repacked c block))) (hex (repacked c block)) (ascii "\n")));
+        says = rw (taken, new-is, ← (ap (λ r. r .back) result)) (sym (append-assoc (firstLine changed (lossOf c block (repacked c block))) (hex (repacked c block)) (ascii "\n")));
       }
 
 -- A buffer as long as it was before a short text was put into it.

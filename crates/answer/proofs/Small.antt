@@ -1,17 +1,18 @@
 -- A block no longer than a record's has samples for which there is room, and they stand at the start of the array that they were decoded to. Assumes nothing.
 use mathlib.Core.Path.{_≡_, refl, ap, _∙_}
-use mathlib.Core.List.{List, [], _++_}
+use mathlib.Core.List.{List, _++_}
 use Prim.Native.Nat.{ℕ, _≤_, min}
 use native.Mathlib.Omega.{arith}
 use lib.IntN.{ℤ}
 use lib.ListN.{length, take, drop, length-append, length-drop}
 use lib.Seq.{take-at, length-take-le}
+use Rattle.num.specs.Outcome.{outcome}
 use Rattle.ms_block.specs.Sizes.{samplesOf}
 use Rattle.ms_block.proofs.Sizes.{shape}
 use Rattle.ms_block.specs.Block.{decodedMsBlock}
-use Rattle.ms_block.specs.Call.{answered, decodeMs}
+use Rattle.ms_block.specs.Call.{decodeMs}
 use Rattle.ms_repacked.proofs.Settled.{samples-shape}
-use Rattle.answer.specs.Answer.{Small}
+use Rattle.answer.specs.Private.{Small}
 
 module _ (c : ℕ) (block : List ℕ) (small : Small c block) where
   pub samples-are : samplesOf c (min (length block) 65536) ≡ samplesOf c (length block)
@@ -24,7 +25,7 @@ module _ (c : ℕ) (block : List ℕ) (small : Small c block) where
   decoded-many = samples-shape block (shape c (length block) (samplesOf c (length block)) (small .0)) .fits
 
   -- what was decoded into the first places of an array, and the rest of it
-  pub decodes : (k n : ℕ) (xs out : List ℤ) → n ≡ samplesOf c (length block) → length out ≡ 8185 → answered k [] xs ≡ decodeMs c block (take n out)
+  pub decodes : (k n : ℕ) (xs out : List ℤ) → n ≡ samplesOf c (length block) → length out ≡ 8185 → outcome k tt xs ≡ decodeMs c block (take n out)
       → (length (xs ++ drop n out) ≡ 8185) × (take (samplesOf c (length block)) (xs ++ drop n out) ≡ decodedMsBlock c block)
   unfolding decodeMs
   decodes k n xs out n-is size e =

@@ -1,7 +1,7 @@
 // What the program `repack` answers to a record, as the bytes that it prints.
 pub use lines::ROOM;
-use lines::line;
-use lines::refused;
+use lines::put_change;
+use lines::put_refusal;
 use loss::loss_report;
 use ms_decode::decode_adpcm_ima_ms;
 use ms_layout::samples;
@@ -15,82 +15,82 @@ ghost use lib.ListN.{length, take};
 ghost use Rattle.ms_block.specs.Block.{decodedMsBlock};
 ghost use Rattle.ms_block.specs.Sizes.{samplesOf};
 ghost use Rattle.text.specs.Text.{Stands};
-ghost use Rattle.lines.specs.Lines as Lines;
-ghost use Rattle.answer.specs.Answer as Says;
-ghost use Rattle.answer.specs.Answer.{answerTo, Small};
+ghost use Rattle.lines.specs.Lines.{changeLine};
+ghost use Rattle.answer.specs.Answer.{lossOf, firstLine, answerFor, answerTo};
+ghost use Rattle.answer.specs.Private.{Small};
 
 // Puts the answer at the start of `out`, and says how long it is. That it is so long in `out` too follows; it is stated for `&out[..n]`.
 pub fn answer(input: &[u8], out: &mut [u8; ROOM]) -> usize
     ensures { λ r. ⌜ Stands (now (out .entry)) 0 (answerTo (now (input .entry))) r (now (out .exit)) ⌝ }
     ensures { λ r. ⌜ (r ≤ length (now (out .exit))) × (r ≡ length (take r (now (out .exit)))) ⌝ }
 {
-    let mut block = no_bytes();
+    let mut block = zero_bytes();
     let record = read(input, &mut block);
     if record.refusal != 0 {
-        return refused(record.refusal, out);
+        return put_refusal(record.refusal, out);
     }
     let n = record.length;
-    told(record.channels, &block[..n], out)
+    answer_block(record.channels, &block[..n], out)
 }
 
 // The answer to a block: what repacking made of it, and then the new block.
-fn told(channels: u8, block: &[u8], out: &mut [u8; ROOM]) -> usize
+fn answer_block(channels: u8, block: &[u8], out: &mut [u8; ROOM]) -> usize
     requires { ⌜ length (now block) ≤ 4096 ⌝ }
-    ensures { λ r. ⌜ Stands (now (out .entry)) 0 (Says.answered channels (now (block .entry))) r (now (out .exit)) ⌝ }
+    ensures { λ r. ⌜ Stands (now (out .entry)) 0 (answerFor channels (now (block .entry))) r (now (out .exit)) ⌝ }
 {
     let n = block.len();
-    let mut new = no_bytes();
+    let mut new = zero_bytes();
     let repacked = repack_adpcm_ima_ms(channels, block, &mut new[..n]);
     if repacked.refusal != 0 {
-        return refused(repacked.refusal, out);
+        return put_refusal(repacked.refusal, out);
     }
-    let line = said(channels, repacked.changed, block, &new[..n], out);
+    let line = put_first_line(channels, repacked.changed, block, &new[..n], out);
     let end = put_hex(out, line, &new[..n]);
     put(out, end, b"\n")
 }
 
 // The first line: `same`, or what changed.
-fn said(channels: u8, differs: bool, old: &[u8], new: &[u8], out: &mut [u8; ROOM]) -> usize
+fn put_first_line(channels: u8, changed: bool, old: &[u8], new: &[u8], out: &mut [u8; ROOM]) -> usize
     requires { ⌜ Small channels (now old) × (length (now new) ≡ length (now old)) ⌝ }
-    ensures { λ r. ⌜ Stands (now (out .entry)) 0 (Says.said differs (Says.lossOf channels (now (old .entry)) (now (new .entry)))) r (now (out .exit)) × (r ≤ 52) ⌝ }
+    ensures { λ r. ⌜ Stands (now (out .entry)) 0 (firstLine changed (lossOf channels (now (old .entry)) (now (new .entry)))) r (now (out .exit)) × (r ≤ 52) ⌝ }
 {
-    if differs {
-        changed(channels, old, new, out)
+    if changed {
+        put_loss(channels, old, new, out)
     } else {
         put(out, 0, b"same\n")
     }
 }
 
 // What became of the samples of a block that was repacked.
-fn changed(channels: u8, old: &[u8], new: &[u8], out: &mut [u8; ROOM]) -> usize
+fn put_loss(channels: u8, old: &[u8], new: &[u8], out: &mut [u8; ROOM]) -> usize
     requires { ⌜ Small channels (now old) × (length (now new) ≡ length (now old)) ⌝ }
-    ensures { λ r. ⌜ Stands (now (out .entry)) 0 (Lines.changed (Says.lossOf channels (now (old .entry)) (now (new .entry)))) r (now (out .exit)) × (r ≤ 52) ⌝ }
+    ensures { λ r. ⌜ Stands (now (out .entry)) 0 (changeLine (lossOf channels (now (old .entry)) (now (new .entry)))) r (now (out .exit)) × (r ≤ 52) ⌝ }
 {
     let m = samples(channels, old.len());
-    let before = decoded(channels, old);
-    let after = decoded(channels, new);
-    line(loss_report(&before[..m], &after[..m]), out)
+    let before = samples_of(channels, old);
+    let after = samples_of(channels, new);
+    put_change(loss_report(&before[..m], &after[..m]), out)
 }
 
 // The samples of a block, at the start of an array.
-fn decoded(channels: u8, block: &[u8]) -> [i16; 8185]
+fn samples_of(channels: u8, block: &[u8]) -> [i16; 8185]
     requires { ⌜ Small channels (now block) ⌝ }
     ensures { λ r. ⌜ (length r ≡ 8185) × (take (samplesOf channels (length (now (block .entry)))) r ≡ decodedMsBlock channels (now (block .entry))) ⌝ }
 {
     let m = samples(channels, block.len());
-    let mut out = no_samples();
+    let mut out = zero_samples();
     decode_adpcm_ima_ms(channels, block, &mut out[..m]);
     out
 }
 
 // The arrays that a block and its samples sit in. What is not written there is never read, so that their lengths are all that counts.
-fn no_bytes() -> [u8; 4096]
+fn zero_bytes() -> [u8; 4096]
     ensures { λ r. ⌜ length r ≡ 4096 ⌝ }
 {
     [0; 4096]
 }
 
-fn no_samples() -> [i16; 8185]
+fn zero_samples() -> [i16; 8185]
     ensures { λ r. ⌜ length r ≡ 8185 ⌝ }
 {
     [0; 8185]

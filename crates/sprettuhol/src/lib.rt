@@ -12,14 +12,16 @@ use ms_encode::encode_adpcm_ima_ms;
 use ms_layout::MOST;
 use repacking::repack_adpcm_ima_ms;
 ghost use mathlib.Core.Path.{_≡_};
-ghost use mathlib.Core.List.{[]};
+ghost use lib.ListN.{length};
+ghost use Rattle.num.specs.Outcome.{outcome};
 ghost use Rattle.ima_nibble.specs.Step.{state, sixteen, stepped, emitted};
 ghost use Rattle.ima_nibble.specs.Table.{imaSteps};
-ghost use Rattle.ima4_block.specs.Call.{answered, decodeIma4Run, encodeIma4Run};
-ghost use Rattle.loss.specs.Loss.{placeOf};
-ghost use Rattle.ms_block.specs.Call as Ms;
-ghost use Rattle.sprettuhol.specs.Loss.{orMax, stored, lossCall};
-ghost use Rattle.sprettuhol.specs.Repack.{numbered, repackNumbers};
+ghost use Rattle.ima4_block.specs.Call.{decodeIma4Run, encodeIma4Run};
+ghost use Rattle.loss.specs.Loss.{placeOf, report};
+ghost use Rattle.ms_block.specs.Call.{decodeMs, encodeMs};
+ghost use Rattle.ms_block.specs.Sizes.{most};
+ghost use Rattle.sprettuhol.specs.Loss.{orMax, lossCall};
+ghost use Rattle.sprettuhol.specs.Repack.{repackCall};
 ghost use Rattle.sprettuhol.specs.Version.{version};
 ghost use Rattle.channels.specs.States.{statesOf};
 ghost use Rattle.g711.specs.Law.{mu-law, A-law, sampleOf, codeOf};
@@ -101,7 +103,7 @@ pub extern "C" fn spr_decode_ima4(
     step_index: &mut u8,
     samples: &mut [i16],
 ) -> u8
-    ensures { λ r. ⌜ answered r (state (now (predictor .exit)) (now («step_index» .exit))) (now (samples .exit)) ≡ decodeIma4Run (state (now (predictor .entry)) (now («step_index» .entry))) (now (bytes .entry)) (now (samples .entry)) ⌝ }
+    ensures { λ r. ⌜ outcome r (state (now (predictor .exit)) (now («step_index» .exit))) (now (samples .exit)) ≡ decodeIma4Run (state (now (predictor .entry)) (now («step_index» .entry))) (now (bytes .entry)) (now (samples .entry)) ⌝ }
 {
     let before = AdpcmImaState {
         predictor: *predictor,
@@ -121,7 +123,7 @@ pub extern "C" fn spr_encode_ima4(
     step_index: &mut u8,
     bytes: &mut [u8],
 ) -> u8
-    ensures { λ r. ⌜ answered r (state (now (predictor .exit)) (now («step_index» .exit))) (now (bytes .exit)) ≡ encodeIma4Run (state (now (predictor .entry)) (now («step_index» .entry))) (now (samples .entry)) (now (bytes .entry)) ⌝ }
+    ensures { λ r. ⌜ outcome r (state (now (predictor .exit)) (now («step_index» .exit))) (now (bytes .exit)) ≡ encodeIma4Run (state (now (predictor .entry)) (now («step_index» .entry))) (now (samples .entry)) (now (bytes .entry)) ⌝ }
 {
     let before = AdpcmImaState {
         predictor: *predictor,
@@ -137,7 +139,7 @@ pub extern "C" fn spr_encode_ima4(
 // One MS block. Channel numbers that are not taken are refused by 1, and then lengths by 2; nothing is written then.
 #[no_mangle]
 pub extern "C" fn spr_decode_ms(channels: u8, block: &[u8], samples: &mut [i16]) -> u8
-    ensures { λ r. ⌜ Ms.answered r [] (now (samples .exit)) ≡ Ms.decodeMs channels (now (block .entry)) (now (samples .entry)) ⌝ }
+    ensures { λ r. ⌜ outcome r tt (now (samples .exit)) ≡ decodeMs channels (now (block .entry)) (now (samples .entry)) ⌝ }
 {
     decode_adpcm_ima_ms(channels, block, samples)
 }
@@ -151,7 +153,8 @@ pub extern "C" fn spr_encode_ms(
     step_indices: &mut [u8; MOST],
     block: &mut [u8],
 ) -> u8
-    ensures { λ r. ⌜ Ms.answered r (statesOf (now (predictors .exit)) (now («step_indices» .exit))) (now (block .exit)) ≡ Ms.encodeMs channels (now (samples .entry)) (statesOf (now (predictors .entry)) (now («step_indices» .entry))) (now (block .entry)) ⌝ }
+    ensures { λ r. ⌜ outcome r (statesOf (now (predictors .exit)) (now («step_indices» .exit))) (now (block .exit)) ≡ encodeMs channels (now (samples .entry)) (statesOf (now (predictors .entry)) (now («step_indices» .entry))) (now (block .entry)) ⌝ }
+    ensures { λ _. ⌜ (length (now (predictors .exit)) ≡ most) × (length (now («step_indices» .exit)) ≡ most) ⌝ }
 {
     let before = states_of(*predictors, *step_indices);
     let encoded_block = encode_adpcm_ima_ms(channels, samples, before, block);
@@ -169,7 +172,7 @@ pub extern "C" fn spr_repack_ms(
     repacked: &mut [u8],
     changed: &mut u8,
 ) -> u8
-    ensures { λ r. ⌜ numbered r (now (changed .exit)) (now (repacked .exit)) ≡ repackNumbers channels (now (block .entry)) (now (repacked .entry)) (now (changed .entry)) ⌝ }
+    ensures { λ r. ⌜ outcome r (now (changed .exit)) (now (repacked .exit)) ≡ repackCall channels (now (block .entry)) (now (repacked .entry)) (now (changed .entry)) ⌝ }
 {
     let answer = repack_adpcm_ima_ms(channels, block, repacked);
     if answer.refusal == 0 {
@@ -187,7 +190,7 @@ pub extern "C" fn spr_loss(
     first: &mut u32,
     peak: &mut u16,
 ) -> u8
-    ensures { λ r. ⌜ stored r (now (count .exit)) (now (first .exit)) (now (peak .exit)) ≡ lossCall (now (before .entry)) (now (after .entry)) (now (count .entry)) (now (first .entry)) (now (peak .entry)) ⌝ }
+    ensures { λ r. ⌜ outcome r (report (now (count .exit)) (now (first .exit)) (now (peak .exit))) tt ≡ lossCall (now (before .entry)) (now (after .entry)) (report (now (count .entry)) (now (first .entry)) (now (peak .entry))) ⌝ }
 {
     let report = loss_report(before, after);
     if report.refusal != 0 {

@@ -12,36 +12,54 @@ use Rattle.answer.proofs.Asked.{Asked, none, asked}
 use Rattle.answer.proofs.answer.Statement.{statement}
 use Rattle.answer.proofs.answer.Tie as tie
 
+-- the array that the block is read into, and the arguments, from behind the reading
+abbrev array : tie.After-read → tie.After-zero-bytes
+array c = c .before .before
+
+abbrev start : tie.After-read → tie.Start
+start c = array c .before .before
+
 returns : tie.Need-returns
 returns c =
-    let s = c .before .before .before .before .before .before .before .before in
-    let r = c .before .before .before .before .read in
-    let is = none (s .args .input .now) (c .before .before .before .before .before .before .no-bytes .result) (r .last .1 .0) (r .result .refusal) (r .result .channels) (r .result .length) (c .before .before .before .before .before .before .no-bytes .ensures) (r .ensures) (c .before .before .if1 .taken) in
-    let stands = subst (λ (text : List ℕ). Stands (s .args .out .now) 0 text (c .refused .result) (c .refused .last .1 .0)) (sym is) (c .refused .ensures) in
-    (stands, counts (s .args .out .now) (answerTo (s .args .input .now)) (c .refused .last .1 .0) (c .refused .result) stands)
+    let read = c .before .before .before .before in
+    let a = start read .args in
+    let out = a .out .now in
+    let r = read .read in
+    let zeros = array read .zero-bytes in
+    let put = c .put-refusal in
+    let is = none (a .input .now) (zeros .result) (r .last .1 .0) (r .result .refusal) (r .result .channels) (r .result .length) (zeros .ensures) (r .ensures) (c .before .before .if1 .taken) in
+    let stands = subst (λ (text : List ℕ). Stands out 0 text (put .result) (put .last .1 .0)) (sym is) (put .ensures) in
+    (stands, counts out (answerTo (a .input .now)) (put .last .1 .0) (put .result) stands)
 
 -- the block that was read
-read-block : (c : tie.Else1) → let r = c .before .before .read in Asked (c .before .before .before .before .before .before .args .input .now) (r .result .channels) (r .result .length) (r .last .1 .0)
+read-block : (c : tie.Else1) → let read = c .before .before in let r = read .read in Asked (start read .args .input .now) (r .result .channels) (r .result .length) (r .last .1 .0)
 read-block c =
-    let r = c .before .before .read in
-    asked (c .before .before .before .before .before .before .args .input .now) (c .before .before .before .before .no-bytes .result) (r .last .1 .0) (r .result .refusal) (r .result .channels) (r .result .length) (c .before .before .before .before .no-bytes .ensures) (r .ensures) (c .if1 .left)
+    let read = c .before .before in
+    let r = read .read in
+    let zeros = array read .zero-bytes in
+    asked (start read .args .input .now) (zeros .result) (r .last .1 .0) (r .result .refusal) (r .result .channels) (r .result .length) (zeros .ensures) (r .ensures) (c .if1 .left)
 
 array-share-prefix-block : tie.Need-array-share-prefix-block
 array-share-prefix-block c = let block = read-block c in omega (arith, block .few, block .long)
 
-slice-aggregate-told : tie.Need-slice-aggregate-told
-slice-aggregate-told c = sym (length-take-le (c .before .before .before .read .result .length) (c .before .before .before .read .last .1 .0) (array-share-prefix-block (c .before)))
+slice-aggregate-answer-block : tie.Need-slice-aggregate-answer-block
+slice-aggregate-answer-block c =
+    let r = c .before .before .before .read in sym (length-take-le (r .result .length) (r .last .1 .0) (array-share-prefix-block (c .before)))
 
-told-requires : tie.Need-told-requires
-told-requires c κs =
-    let r = c .before .before .before .before .read in
-    omega (arith, length-take-le (r .result .length) (r .last .1 .0) (array-share-prefix-block (c .before .before)), read-block (c .before .before) .few)
+answer-block-requires : tie.Need-answer-block-requires
+answer-block-requires c κs =
+    let at = c .before .before in
+    let r = at .before .before .read in
+    omega (arith, length-take-le (r .result .length) (r .last .1 .0) (array-share-prefix-block at), read-block at .few)
 
 returns-2 : tie.Need-returns-2
 returns-2 c =
-    let s = c .before .before .before .before .before .before .before .before .before in
-    let stands = subst (λ (text : List ℕ). Stands (s .args .out .now) 0 text (c .told .result) (c .told .last .1 .1 .0)) (sym (read-block (c .before .before .before) .asks)) (c .told .ensures) in
-    (stands, counts (s .args .out .now) (answerTo (s .args .input .now)) (c .told .last .1 .1 .0) (c .told .result) stands)
+    let at = c .before .before .before in
+    let a = start (at .before .before) .args in
+    let out = a .out .now in
+    let answer = c .answer-block in
+    let stands = subst (λ (text : List ℕ). Stands out 0 text (answer .result) (answer .last .1 .1 .0)) (sym (read-block at .asks)) (answer .ensures) in
+    (stands, counts out (answerTo (a .input .now)) (answer .last .1 .1 .0) (answer .result) stands)
 
 pub answer-spec : {M : Type 1} → statement M
 answer-spec =
@@ -52,6 +70,6 @@ answer-spec =
     (λ c κs. search needs)
     returns
     array-share-prefix-block
-    slice-aggregate-told
-    told-requires
+    slice-aggregate-answer-block
+    answer-block-requires
     returns-2)

@@ -4,8 +4,9 @@ use mir.Syntax.{w16}
 use mir.Val.{SFits}
 use mir.ValLaws.{toZ-ofZ}
 use borrow.Author.Needs.{needs}
+use Rattle.num.specs.Outcome.{outcome}
 use Rattle.ima_nibble.specs.Step.{state}
-use Rattle.ima4_block.specs.Call.{answered, encodeIma4Run}
+use Rattle.ima4_block.specs.Call.{encodeIma4Run}
 use Rattle.sprettuhol.proofs.spr_encode_ima4.Statement.{statement}
 use Rattle.sprettuhol.proofs.spr_encode_ima4.Tie as tie
 
@@ -16,7 +17,7 @@ returns c =
     let a = c .before .before .before .before .before .before .before .before .args in
     let f : SFits w16 (r .state .predictor) = search needs in
     let g : SFits w16 (a .predictor .now) = search needs in
-    ap (λ p. answered (r .refusal) (state p (r .state .«step_index»)) (call .last .1 .1 .0)) (toZ-ofZ w16 _ f)
+    ap (λ p. outcome (r .refusal) (state p (r .state .«step_index»)) (call .last .1 .1 .0)) (toZ-ofZ w16 _ f)
     ∙ call .ensures
     ∙ ap (λ p. encodeIma4Run (state p (a .step-index .now)) (a .samples .now) (a .bytes .now)) (toZ-ofZ w16 _ g)
 
