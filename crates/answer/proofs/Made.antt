@@ -4,12 +4,11 @@ use mathlib.Core.Bool.{Bool}
 use mathlib.Core.List.{List, _++_, append-assoc}
 use Prim.Native.Nat.{ℕ, _+_, _≤_}
 use native.Mathlib.Omega.{arith}
-use lib.Dec.{eqb}
 use lib.ListN.{length, take, drop, length-append, length-drop}
 use lib.Seq.{take-at, length-take-le}
-use borrow.Author.Tests.{ne-eqb, eqb-true}
-use borrow.Table.Steps.{cases}
+use borrow.Author.Tests.{ne-eqb}
 use Rattle.num.specs.Outcome.{outcome}
+use Rattle.num.proofs.Outcome.{number-is}
 use Rattle.ms_block.specs.Sizes.{samplesOf, repackRefusal}
 use Rattle.ms_block.proofs.Sizes.{shape}
 use Rattle.ms_repacked.specs.Repack.{repacked, anyChange, repackMs}
@@ -23,9 +22,7 @@ use Rattle.answer.specs.Private.{Small}
 -- the number that repacking answers
 refusal-is : (c : ℕ) (block out : List ℕ) → repackMs c block out .number ≡ repackRefusal c (length block) (length out)
 unfolding repackMs
-refusal-is c block out =
-    let number = repackRefusal c (length block) (length out) in
-    cases (eqb number 0) (λ t. rw t (sym (eqb-true number 0 t))) (λ t. rw t refl)
+refusal-is c block out = number-is (repackRefusal c (length block) (length out)) _ _
 
 -- the array begins with the new block
 pub record Made (c : ℕ) (block : List ℕ) (changed : Bool) (xs : List ℕ) : Type 0 where

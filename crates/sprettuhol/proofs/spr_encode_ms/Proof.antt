@@ -3,26 +3,33 @@ use mathlib.Core.Path.{ap, ap₂, _∙_}
 use mathlib.Core.List.{List, map}
 use lib.ListN.{length}
 use borrow.Author.Needs.{needs}
+use Rattle.num.specs.Outcome.{outcome}
 use Rattle.ima_nibble.specs.Step.{State}
 use Rattle.adpcm_ima.specs.View.{stateOf}
-use Rattle.ms_block.specs.Call.{answered, encodeMs}
+use Rattle.ms_block.specs.Call.{encodeMs}
 use Rattle.ms_block.proofs.Round.{states-length}
 use Rattle.channels.specs.States.{statesOf}
-use Rattle.channels.proofs.Numbers.{numbers-back, numbers-length}
+use Rattle.channels.proofs.Numbers.{numbers-back, numbers-length, predictors-length, indices-length}
 use Rattle.sprettuhol.proofs.spr_encode_ms.Statement.{statement}
 use Rattle.sprettuhol.proofs.spr_encode_ms.Tie as tie
 
 returns : tie.Need-returns
 returns c =
-    let call = c .before .before .before .before .before .encode-adpcm-ima-ms in
-    let a = c .before .before .before .before .before .before .before .before .before .before .before .args in
-    let after = call .result .states in
+    let encoded = c .before .before .before .before .before in
+    let made = encoded .before .before in
+    let a = made .before .before .before .before .args in
+    let call = encoded .encode-adpcm-ima-ms in
+    let after = map stateOf (call .result .states) in
     let given = statesOf (a .predictors .now) (a .step-indices .now) in
-    let is = call .ensures ∙ ap (λ (sts : List State). encodeMs (a .channels) (a .samples .now) sts (a .block .now)) (c .before .before .before .before .before .before .before .states-of .ensures) in
-    let size = ap (λ r. length (r .states)) is ∙ states-length (a .channels) (a .samples .now) given (a .block .now) (numbers-length (a .predictors .now) (a .step-indices .now)) in
-    let stored = ap₂ statesOf (c .before .predictors-of .ensures) (c .step-indices-of .ensures) ∙ numbers-back (map stateOf after) size in
-    ap (λ (sts : List State). answered (call .result .refusal) sts (call .last .1 .1 .1 .0)) stored
-    ∙ is
+    let is = call .ensures ∙ ap (λ (sts : List State). encodeMs (a .channels) (a .samples .now) sts (a .block .now)) (made .states-of .ensures) in
+    let size = ap (λ r. length (r .back)) is ∙ states-length (a .channels) (a .samples .now) given (a .block .now) (numbers-length (a .predictors .now) (a .step-indices .now)) in
+    let predictors = c .before .predictors-of .ensures in
+    let indices = c .step-indices-of .ensures in
+    let stored = ap₂ statesOf predictors indices ∙ numbers-back after size in (
+      ap (λ (sts : List State). outcome (call .result .refusal) sts (call .last .1 .1 .1 .0)) stored ∙ is,
+      ap length predictors ∙ predictors-length after,
+      ap length indices ∙ indices-length after,
+    )
 
 pub spr-encode-ms-spec : {M : Type 1} → statement M
 spr-encode-ms-spec = tie.close (tie.spec (λ c κs. search needs) (λ c κs. search needs) (λ c κs. search needs) (λ c κs. search needs) (λ c. search needs) returns)
