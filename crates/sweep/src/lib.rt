@@ -5,14 +5,15 @@ use ima_step::Wide;
 ghost use mathlib.Core.Path.{_≡_};
 ghost use Prim.Native.Nat.{_<_};
 ghost use lib.IntN.{pos, natAbs, subℕ, _+ℤ_};
+ghost use Rattle.num.specs.Outcome.{outcome};
 ghost use Rattle.ima_nibble.specs.Step.{state};
 ghost use Rattle.ima_step.specs.View.{wideOf};
-ghost use Rattle.sweep.specs.Answers.{answerOf, refusalOf, after};
+ghost use Rattle.sweep.specs.Answers.{answerOf, sweepCall};
 
 // answers[k] is the answer to the sample k - 32768. A buffer that is not of 65,536 numbers is refused by 2, and left alone.
 #[no_mangle]
 pub extern "C" fn sweep_encode(predictor: i16, step_index: u8, answers: &mut [u32]) -> u8
-    ensures { λ r. ⌜ (r ≡ refusalOf (now (answers .entry))) × (now (answers .exit) ≡ after (state predictor «step_index») (now (answers .entry))) ⌝ }
+    ensures { λ r. ⌜ outcome r tt (now (answers .exit)) ≡ sweepCall (state predictor «step_index») (now (answers .entry)) ⌝ }
 {
     if answers.len() != 65536 {
         return 2;
@@ -25,7 +26,7 @@ pub extern "C" fn sweep_encode(predictor: i16, step_index: u8, answers: &mut [u3
     let wide = state.widened();
     let mut k = 0;
     while k < answers.len() {
-        answers[k] = answered(&steps, wide, sample(k));
+        answers[k] = answer_of(&steps, wide, sample(k));
         k += 1;
     }
     0
@@ -38,7 +39,7 @@ fn sample(k: usize) -> i16
     (k as i32 - 32768) as i16
 }
 
-fn answered(steps: &[u16; 89], wide: Wide, x: i16) -> u32
+fn answer_of(steps: &[u16; 89], wide: Wide, x: i16) -> u32
     ensures { λ r. ⌜ r ≡ answerOf (now (steps .entry)) (wideOf wide) x ⌝ }
 {
     let coded = wide.coded(steps, x);

@@ -27,8 +27,7 @@ returns c =
     let indices = c .step-indices-of .ensures in
     let stored = ap₂ statesOf predictors indices ∙ numbers-back after size in (
       ap (λ (sts : List State). outcome (call .result .refusal) sts (call .last .1 .1 .1 .0)) stored ∙ is,
-      ap length predictors ∙ predictors-length after,
-      ap length indices ∙ indices-length after,
+      (ap length predictors ∙ predictors-length after, ap length indices ∙ indices-length after),
     )
 
 pub spr-encode-ms-spec : {M : Type 1} → statement M

@@ -10,6 +10,7 @@ use mir.Val.{SFits}
 use mir.ValLaws.{toZ-ofZ}
 use borrow.Author.Needs.{needs}
 use borrow.Author.Tests.{eq-eqb, ne-eqb}
+use Rattle.num.specs.Outcome.{outcome}
 use Rattle.num.proofs.Lists.{Upto, none, one-more, all}
 use Rattle.ima_nibble.specs.Step.{State, state}
 use Rattle.ima_nibble.specs.Table.{imaSteps}
@@ -29,7 +30,7 @@ abbrev μ-loop : tie.MeasureT-loop
 μ-loop predictor step-index answers₀ steps wide k₀ answers k = 65536 - k
 
 returns : tie.Need-returns Inv-loop μ-loop
-returns c = simp (ne-eqb _ _ (c .if1 .taken)) (refl, refl)
+returns c = simp (ne-eqb _ _ (c .if1 .taken)) refl
 
 loop-holds : tie.Need-loop-holds Inv-loop μ-loop
 loop-holds c = (none (rule (wideOf (c .widened .result))) 65536 (c .before .before .before .args .answers .now), c .before .if1 .left, omega arith)
@@ -45,8 +46,8 @@ loop-again c =
     let k = at .loop .k in
     let inv = at .loop .inv in
     let g : SFits w16 (c .before .sample .result) = search needs in
-    let is : c .answered .result ≡ rule w k = c .answered .ensures ∙ ap (answerOf imaSteps w) (toZ-ofZ w16 _ g ∙ c .before .sample .ensures) in
-    (one-more (rule w) 65536 k (at .loop .answers) (c .answered .result) (inv .1) (omega arith) is (inv .0), length-set (at .loop .answers) k (c .answered .result) ∙ inv .1, omega arith)
+    let is : c .answer-of .result ≡ rule w k = c .answer-of .ensures ∙ ap (answerOf imaSteps w) (toZ-ofZ w16 _ g ∙ c .before .sample .ensures) in
+    (one-more (rule w) 65536 k (at .loop .answers) (c .answer-of .result) (inv .1) (omega arith) is (inv .0), length-set (at .loop .answers) k (c .answer-of .result) ∙ inv .1, omega arith)
 
 returns-2 : tie.Need-returns-2 Inv-loop μ-loop
 returns-2 c =
@@ -57,7 +58,7 @@ returns-2 c =
     let w = wideOf (at .before .widened .result) in
     let done = all (rule w) 65536 (at .loop .answers) (inv .1) (subst (Upto (rule w) 65536 (at .loop .answers)) end (inv .0)) in
     let from-state = at .before .widened .ensures .0 ∙ ap (λ (p : ℤ). state p (s .args .step-index)) (toZ-ofZ w16 _ (s .fits .predictor)) in
-    simp (eq-eqb _ _ (at .before .before .if1 .left)) (refl, done ∙ ap answersOf from-state)
+    simp (eq-eqb _ _ (at .before .before .if1 .left)) (ap (outcome 0 tt) (done ∙ ap answersOf from-state))
 
 pub sweep-encode-spec : {M : Type 1} → statement M
 sweep-encode-spec =

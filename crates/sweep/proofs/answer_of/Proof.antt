@@ -1,4 +1,4 @@
--- `sweep::answered` meets its contract: the nibble and the next state are the encoder's, and each has its place in the number. Assumes nothing.
+-- `sweep::answer_of` meets its contract: the nibble and the next state are the encoder's, and each has its place in the number. Assumes nothing.
 use mathlib.Core.Path.{_≡_, ap, _∙_}
 use Prim.Native.Nat.{ℕ, _+_, _*_}
 use native.Mathlib.Omega.{arith}
@@ -10,9 +10,9 @@ use borrow.Author.Needs.{needs}
 use Rattle.ima_nibble.specs.Step.{sixteen, stepped, emitted, narrow}
 use Rattle.ima_step.specs.View.{wideOf}
 use Rattle.ima_nibble.proofs.Bounds.{narrow-is}
-use Rattle.sweep.specs.Answers.{packed, answerOf}
-use Rattle.sweep.proofs.answered.Statement.{statement}
-use Rattle.sweep.proofs.answered.Tie as tie
+use Rattle.sweep.specs.Answers.{answerNumber, answerOf}
+use Rattle.sweep.proofs.answer_of.Statement.{statement}
+use Rattle.sweep.proofs.answer_of.Tie as tie
 
 emits : (c : tie.After-coded) → c .coded .result .nibble ≡ emitted sixteen (c .before .args .steps .now) (wideOf (c .before .args .wide)) (c .before .args .x)
 emits c = c .coded .ensures .0 ∙ ap (emitted sixteen (c .before .args .steps .now) (wideOf (c .before .args .wide))) (toZ-ofZ w16 _ (c .before .fits .x))
@@ -37,11 +37,11 @@ returns c =
     let high = c .biased .ensures .0 ∙ ap (λ (z : ℤ). natAbs (z +ℤ pos 32768)) (toZ-ofZ w16 _ f) in
     let next = narrowed .narrowed .ensures ∙ ap narrow (before .coded .ensures .2) ∙ narrow-is (a .steps .now) (wideOf (a .wide)) n in
     ap (λ (b : ℕ). n + 256 * r .«step_index» + 65536 * b) high
-    ∙ ap (packed n) next
-    ∙ ap (λ (v : ℕ). packed v (stepped sixteen (a .steps .now) (wideOf (a .wide)) v)) (emits before)
+    ∙ ap (answerNumber n) next
+    ∙ ap (λ (v : ℕ). answerNumber v (stepped sixteen (a .steps .now) (wideOf (a .wide)) v)) (emits before)
 
-pub answered-spec : {M : Type 1} → statement M
-answered-spec =
+pub answer-of-spec : {M : Type 1} → statement M
+answer-of-spec =
     tie.close
     (tie.spec
     (λ c κs. search needs)
