@@ -13,7 +13,7 @@ use Rattle.num.specs.Halves.{fromBits, bitsOf}
 use Rattle.num.proofs.Shift.{shift-le}
 use Rattle.num.proofs.Within.{clamp-under, clamp-over}
 use Rattle.ima_nibble.specs.Step.{State, sixteen, In, Good}
-use Rattle.ima4_block.specs.Header.{headerBits, headerState, saturated, near, keeps, start}
+use Rattle.ima4_block.specs.Header.{headerBits, headerState, saturated, near, keeps, startState}
 
 -- the header's predictor, and what it dropped
 abbrev top : ℤ → ℤ
@@ -47,8 +47,8 @@ keeps-own st h =
     (subst (λ z. near z (top x) ≡ true) (sym e) (near-above (top x) (bitsOf x % 128) (omega arith) (subst (In sixteen) e (h .inside))))
 
 -- A state within the limits is kept at its own header.
-pub kept : (st : State) → Good sixteen st → start st (headerBits st / 256) (headerBits st % 256) ≡ st
-unfolding start
+pub kept : (st : State) → Good sixteen st → startState st (headerBits st / 256) (headerBits st % 256) ≡ st
+unfolding startState
 kept st h =
     let whole : 256 * (headerBits st / 256) + headerBits st % 256 ≡ headerBits st = omega arith in
     rw (whole, keeps-own st h)

@@ -18,8 +18,8 @@ use Rattle.ima4_block.proofs.Cut.{single, continued}
 module _ {X Y : Type 0} (block : State → List X → Done Y) (size width : ℕ) (call : State → List X → List Y → Outcome State (List Y))
     (takes : (st : State) (xs : List X) (out : List Y) → length xs ≡ size → length out ≡ width → call st xs out ≡ finished (block st xs)) where
   -- the part for block i of a list that is n of them
-  part : {Z : Type 0} (wide n i : ℕ) (zs : List Z) → length zs ≡ wide * n → i < n → length (take (wide * i + wide - wide * i) (drop (wide * i) zs)) ≡ wide
-  part wide n i zs e h =
+  part-length : {Z : Type 0} (wide n i : ℕ) (zs : List Z) → length zs ≡ wide * n → i < n → length (take (wide * i + wide - wide * i) (drop (wide * i) zs)) ≡ wide
+  part-length wide n i zs e h =
       let l = mul-le-mul-left {m = i + 1} {n = n} wide (omega arith) in
       let k : wide * i + wide - wide * i ≡ wide = omega arith in
       rw k (length-take-le wide (drop (wide * i) zs) (omega (arith, length-drop (wide * i) zs, l)))
@@ -47,10 +47,10 @@ module _ {X Y : Type 0} (block : State → List X → Done Y) (size width : ℕ)
         let zs = drop (width * i + width - width * i) (drop (width * i) out) in
         let l = mul-le-mul-left {m = i} {n = n} width (omega arith) in
         let upto : width * (i + 1) ≡ length before + length ys =
-        omega (arith, length-take-le (width * i) out (omega (arith, l)), same ∙ part width n i out o h) in
+        omega (arith, length-take-le (width * i) out (omega (arith, l)), same ∙ part-length width n i out o h) in
         let front = ap (λ k. take k (before ++ (ys ++ zs))) upto ∙ take-append-add before (ys ++ zs) (length ys) ∙ ap (λ r. before ++ r) (take-append-seam ys zs) in
         let whole : size * i + size - size * i ≡ size = omega arith in
-        let block-is = is ∙ takes st _ _ (part size n i xs x h) (part width n i out o h) ∙ ap (λ k. finished (block st (take k here))) whole in
+        let block-is = is ∙ takes st _ _ (part-length size n i xs x h) (part-length width n i out o h) ∙ ap (λ k. finished (block st (take k here))) whole in
         ap (λ r. done r next) front
         ∙ ap (λ (r : Outcome State (List Y)). after before (done (r .buffer) (r .back))) block-is
         ∙ ap (after before) (sym (single block size st here))

@@ -31,8 +31,8 @@ near p h = leZ (saturated (h -ℤ pos 127)) p && leZ p (saturated (h +ℤ pos 12
 abbrev pub keeps : State → State → Bool
 keeps own head = eqb (own .index) (head .index) && near (own .predictor) (head .predictor)
 
-unfoldable pub start : State → ℕ → ℕ → State
-start own high low = let head = headerState (256 * high + low) in cond (keeps own head) own head
+unfoldable pub startState : State → ℕ → ℕ → State
+startState own high low = let head = headerState (256 * high + low) in cond (keeps own head) own head
 
 -- The encoder lowers its index before writing.
 abbrev pub loweredState : State → State

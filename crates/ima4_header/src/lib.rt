@@ -11,7 +11,7 @@ use rule::keeps;
 ghost use mathlib.Core.Path.{_≡_};
 ghost use mathlib.Core.List.{[], _∷_};
 ghost use Rattle.adpcm_ima.specs.View.{stateOf};
-ghost use Rattle.ima4_block.specs.Header.{ima4Header, start, loweredState};
+ghost use Rattle.ima4_block.specs.Header.{ima4Header, startState, loweredState};
 
 pub struct Header {
     pub high: u8,
@@ -20,7 +20,7 @@ pub struct Header {
 
 // The decoder's own state, or that of the header.
 pub fn started(own: AdpcmImaState, high: u8, low: u8) -> AdpcmImaState
-    ensures { λ r. ⌜ stateOf r ≡ start (stateOf own) high low ⌝ }
+    ensures { λ r. ⌜ stateOf r ≡ startState (stateOf own) high low ⌝ }
 {
     let predictor = from_halves(high, low / 128 * 128);
     let index = lesser((low % 128) as usize, 88);

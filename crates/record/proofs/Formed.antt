@@ -52,14 +52,14 @@ module _ (input : List ℕ) where
     block-taken = ap (λ (n : ℕ). take n (put out 0 (blockOf input))) (sym (zero-add (length (blockOf input)))) ∙ put-taken out 0 (blockOf input) fits
 
     -- as a part of the input, it is all behind the fourth byte
-    abbrev part : List ℕ
-    part = take (length input - 4) (drop 4 input)
+    abbrev behind-four : List ℕ
+    behind-four = take (length input - 4) (drop 4 input)
 
-    part-is : part ≡ blockOf input
+    part-is : behind-four ≡ blockOf input
     part-is = take-all (length input - 4) (drop 4 input) (omega (arith, length-drop 4 input))
 
-    pub part-place : placeAfter out 0 part ≡ length (blockOf input)
+    pub part-place : placeAfter out 0 behind-four ≡ length (blockOf input)
     part-place = ap (placeAfter out 0) part-is ∙ placeAfter-is out 0 (blockOf input) fits ∙ zero-add (length (blockOf input))
 
-    pub part-put : putIn out 0 part ≡ put out 0 (blockOf input)
+    pub part-put : putIn out 0 behind-four ≡ put out 0 (blockOf input)
     part-put = ap (putIn out 0) part-is ∙ putIn-put out 0 (blockOf input) fits

@@ -55,7 +55,7 @@ fn replay(text: &[u8]) {
             tally = counted(tally, &bytes[..count]);
         }
     }
-    report(tally);
+    print_tally(tally);
 }
 
 fn counted(tally: Tally, bytes: &[u8]) -> Tally {
@@ -87,7 +87,7 @@ fn more(n: u64) -> u64 {
     if n < 1_000_000 { n + 1 } else { n }
 }
 
-fn report(tally: Tally) {
+fn print_tally(tally: Tally) {
     say(b"decode_ulaw", tally, 1);
     say(b"encode_ulaw", tally, 2);
     say(b"decode_alaw", tally, 3);

@@ -9,7 +9,7 @@ use borrow.Author.Needs.{needs}
 use Rattle.num.specs.Halves.{fromBits}
 use Rattle.ima_nibble.specs.Step.{state}
 use Rattle.adpcm_ima.specs.View.{stateOf}
-use Rattle.ima4_block.specs.Header.{headerState, keeps, start}
+use Rattle.ima4_block.specs.Header.{headerState, keeps, startState}
 use Rattle.ima4_header.proofs.started.Statement.{statement}
 use Rattle.ima4_header.proofs.started.Tie as tie
 
@@ -33,11 +33,11 @@ kept : (c : tie.After-keeps) → c .keeps .result ≡ keeps (stateOf (c .before 
 kept c = c .keeps .ensures ∙ ap (keeps (stateOf (c .before .before .before .before .args .own))) (reloads-it (c .before))
 
 returns : tie.Need-returns
-unfolding start
+unfolding startState
 returns c = rw (sym (kept (c .before)) ∙ c .if1 .taken) refl
 
 returns-2 : tie.Need-returns-2
-unfolding start
+unfolding startState
 returns-2 c = rw (sym (kept (c .before)) ∙ c .if1 .left) (reloads-it (c .before .before))
 
 pub started-spec : {M : Type 1} → statement M

@@ -43,8 +43,8 @@ loop-less-2 c = search needs
 loop-again-2 : tie.Need-loop-again-2 Inv-loop μ-loop
 loop-again-2 c = search needs
 
-report-requires : tie.Need-report-requires Inv-loop μ-loop
-report-requires c κs = search needs
+print-tally-requires : tie.Need-print-tally-requires Inv-loop μ-loop
+print-tally-requires c κs = search needs
 
 returns : tie.Need-returns Inv-loop μ-loop
 returns c = search needs
@@ -65,5 +65,5 @@ replay-spec =
     loop-again
     loop-less-2
     loop-again-2
-    report-requires
+    print-tally-requires
     returns)
