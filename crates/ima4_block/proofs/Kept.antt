@@ -2,13 +2,13 @@
 -- Assumes nothing.
 use mathlib.Core.Path.{_≡_, refl, sym, ap, subst}
 use mathlib.Core.Bool.{true}
-use Prim.Native.Nat.{ℕ, suc, _+_, _-_, _*_, _/_, _%_, _≤_, min}
+use Prim.Native.Nat.{ℕ, suc, _+_, _-_, _*_, _/_, _%_, _≤_, _<_, min}
 use native.Mathlib.Omega.{arith}
 use lib.Dec.{leb→le, le→leb}
 use lib.Ieee.Bits.{is-true}
 use lib.IntN.{ℤ, pos, negsuc, _+ℤ_, _-ℤ_}
 use lib.Signed.{leZ, _≤ℤ_}
-use borrow.Author.Tests.{lt-ltb, le-ltb, eq-eqb}
+use borrow.Author.Tests.{lt-ltb, le-ltb, eq-eqb, ne-eqb}
 use Rattle.num.specs.Halves.{fromBits, bitsOf}
 use Rattle.num.proofs.Shift.{shift-le}
 use Rattle.num.proofs.Within.{clamp-under, clamp-over}
@@ -52,3 +52,8 @@ unfolding startState
 kept st h =
     let whole : 256 * (headerBits st / 256) + headerBits st % 256 ≡ headerBits st = omega arith in
     rw (whole, keeps-own st h)
+
+-- An incoming index above 88, as 200, always reloads.
+pub reloads : (own : State) (high low : ℕ) → 88 < own .index → startState own high low ≡ headerState (256 * high + low)
+unfolding startState
+reloads own high low h = rw (ne-eqb (own .index) (min ((256 * high + low) % 128) 88) (λ e. omega arith)) refl

@@ -1,19 +1,20 @@
 -- What each channel of a block depends on, and what decoding makes of an encoded block. Over any number of channels that is taken. Assumes nothing.
-use mathlib.Core.Path.{_≡_, sym, ap, ap₂, _∙_}
-use mathlib.Core.List.{List}
+use mathlib.Core.Path.{_≡_, refl, sym, ap, ap₂, _∙_}
+use mathlib.Core.List.{List, [], _∷_}
 use Prim.Native.Nat.{ℕ, _<_}
 use native.Mathlib.Omega.{arith}
 use lib.IntN.{ℤ, pos}
 use lib.ListN.{length, getD}
+use Rattle.num.specs.Lists.{from}
 use Rattle.num.specs.Outcome.{outcome}
 use Rattle.ima_nibble.specs.Step.{State, state, sixteen}
-use Rattle.ima_nibble.specs.Series.{Within}
-use Rattle.ms_block.specs.Weave.{woven}
+use Rattle.ima_nibble.specs.Series.{Within, encoded}
+use Rattle.ms_block.specs.Weave.{strand, woven}
 use Rattle.ms_block.proofs.Sizes.{Shape, shape}
 use Rattle.ms_block.proofs.Weave.{woven-same}
-use Rattle.ms_block.specs.Block.{decodedChannel, encodedChannel, bytesIn, samplesIn, decodedMsBlock, stateIn, begun, encodedMsBlock, heard}
+use Rattle.ms_block.specs.Block.{decodedChannel, encodedChannel, bytesIn, samplesIn, decodedMsBlock, stateIn, begun, statesFrom, encodedMsBlock, heard}
 use Rattle.ms_block.specs.Call.{decodeMs, encodeMs}
-use Rattle.ms_block.specs.Sizes.{Taken}
+use Rattle.ms_block.specs.Sizes.{msRefusal, Taken}
 use Rattle.ms_block.proofs.Round.{channel-decoded, block-length, channel-begun, channel-heard}
 
 -- ---- each channel alone
@@ -36,6 +37,14 @@ own-samples-alone c n samples others states starts taken long e h same index =
     channel-begun samples is e h states
     ∙ ap₂ (λ (xs : List ℤ) (i : ℕ). encodedChannel (state (getD xs 0 (pos 0)) i) xs .written) same index
     ∙ sym (channel-begun others is′ e h starts)
+
+-- ---- one sample
+
+-- A one-sample mono block returns its index still, 200 too: no nibble has lowered it. The predictor is the sample.
+pub one-sample : (x : ℤ) (states : List State) (out : List ℕ) → length out ≡ 4
+    → let r = encodeMs 1 (x ∷ []) states out in (r .number ≡ 0) × (stateIn (r .back) 0 ≡ state x (stateIn states 0 .index))
+unfolding from strand msRefusal encoded encodedChannel begun statesFrom encodeMs
+one-sample x states out long = rw long (refl, refl)
 
 -- ---- there and back
 
