@@ -75,7 +75,7 @@ fn values(verdict: &mut Verdict) {
     }
     println!();
     println!(
-        "The loop itself, with no call in it, takes {:.2} of each.",
+        "The empty loop takes {:.2} ns per input; every time above includes it.",
         timing::loop_alone()
     );
     println!();

@@ -154,7 +154,7 @@ fn row<T: Copy + Into<i32>>(
     let differ = apart.iter().filter(|&&by| by > 0).count() + lacking;
     let mut words = String::new();
     if differ > 0 {
-        words = reason().unwrap_or("why was not found out".into());
+        words = reason().unwrap_or("the reason is not known".into());
     }
     if lacking > 0 {
         words = format!("the lengths differ: {words}");
