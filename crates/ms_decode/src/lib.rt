@@ -1,4 +1,4 @@
-// A block to samples. Each channel starts from its header, so no state goes in or comes back.
+// An MS block to samples. Each channel starts from its header, so no state goes in or comes back.
 use adpcm_ima::IMA_STEP_TABLE;
 use ima_step::Wide;
 use ms_layout::MOST;

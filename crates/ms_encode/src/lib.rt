@@ -1,4 +1,4 @@
-// Samples to a block. The states go in by value, and come back in one array.
+// Samples to an MS block. The states go in by value, and come back in one array.
 use adpcm_ima::AdpcmImaState;
 use adpcm_ima::IMA_STEP_TABLE;
 use ms_layout::MOST;
