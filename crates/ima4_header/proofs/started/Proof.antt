@@ -20,17 +20,25 @@ bits high low h =
     let index : low % 128 ≡ (256 * high + low) % 128 = omega arith in
     ap₂ (λ (n i : ℕ). state (fromBits n) (min i 88)) top index
 
--- the header's state, and whether it is taken
-reloads-it : (c : tie.After-reloaded) → stateOf (c .reloaded .result) ≡ headerState (256 * c .before .before .before .args .high + c .before .before .before .args .low)
+-- the arguments, from behind the header's state
+abbrev begin : tie.After-reloaded → tie.Start
+begin c = c .before .before .before
+
+-- the header's state, from behind whether the own one is kept
+abbrev reloaded : tie.After-keeps → tie.After-reloaded
+reloaded c = c .before
+
+-- the header's state is the definition's, and so is whether the own one is kept
+reloads-it : (c : tie.After-reloaded) → let a = begin c .args in stateOf (c .reloaded .result) ≡ headerState (256 * a .high + a .low)
 reloads-it c =
-    let s = c .before .before .before in
+    let s = begin c in
     let f : SFits w16 (c .before .before .from-halves .result) = search needs in
     c .reloaded .ensures
     ∙ ap₂ state (toZ-ofZ w16 _ f ∙ c .before .before .from-halves .ensures) (c .before .lesser .ensures)
     ∙ bits (s .args .high) (s .args .low) (s .fits .low .fits)
 
-kept : (c : tie.After-keeps) → c .keeps .result ≡ keeps (stateOf (c .before .before .before .before .args .own)) (headerState (256 * c .before .before .before .before .args .high + c .before .before .before .before .args .low))
-kept c = c .keeps .ensures ∙ ap (keeps (stateOf (c .before .before .before .before .args .own))) (reloads-it (c .before))
+kept : (c : tie.After-keeps) → let a = begin (reloaded c) .args in c .keeps .result ≡ keeps (stateOf (a .own)) (headerState (256 * a .high + a .low))
+kept c = c .keeps .ensures ∙ ap (keeps (stateOf (begin (reloaded c) .args .own))) (reloads-it (reloaded c))
 
 returns : tie.Need-returns
 unfolding startState
@@ -38,7 +46,7 @@ returns c = rw (sym (kept (c .before)) ∙ c .if1 .taken) refl
 
 returns-2 : tie.Need-returns-2
 unfolding startState
-returns-2 c = rw (sym (kept (c .before)) ∙ c .if1 .left) (reloads-it (c .before .before))
+returns-2 c = rw (sym (kept (c .before)) ∙ c .if1 .left) (reloads-it (reloaded (c .before)))
 
 pub started-spec : {M : Type 1} → statement M
 started-spec = tie.close (tie.spec (λ c. search needs) (λ c κs. search needs) (λ c. search needs) (λ c κs. search needs) (λ c. search needs) (λ c κs. search needs) (λ c κs. search needs) returns returns-2)

@@ -12,16 +12,22 @@ use Rattle.lines.proofs.put_refusal.Tie as tie
 
 returns : tie.Need-returns
 returns c =
-    let a = c .before .before .before .before .before .before .before .before .args in
+    let at-end = c .before .before .before in
+    let at-word = at-end .before .before in
+    let a = at-word .before .before .before .args in
     let out = a .out .now in
     let room : length out ≡ 8245 = search needs in
     let few = ten-digits (a .number) (search needs) in
-    let word = ascii "refused " in
-    let text = word ++ decimal (a .number) in
-    let long = length-append word (decimal (a .number)) in
-    let s₁ = stands-more out 0 [] word 0 (c .before .before .before .before .before .put .result) out (c .before .before .before .before .before .put .last .0) (omega (arith, room)) (stands-none out 0) (c .before .before .before .before .before .put .ensures .0) (c .before .before .before .before .before .put .ensures .1) in
-    let s₂ = stands-more out 0 word (decimal (a .number)) (c .before .before .before .before .before .put .result) (c .before .before .before .put-decimal .result) (c .before .before .before .before .before .put .last .0) (c .before .before .before .put-decimal .last .0) (omega (arith, room, few, long)) s₁ (c .before .before .before .put-decimal .ensures .0) (c .before .before .before .put-decimal .ensures .1) in
-    stands-more out 0 text (ascii "\n") (c .before .before .before .put-decimal .result) (c .put2 .result) (c .before .before .before .put-decimal .last .0) (c .put2 .last .0) (omega (arith, room, few, long, length-append text (ascii "\n"))) s₂ (c .put2 .ensures .0) (c .put2 .ensures .1)
+    let word = at-word .put in
+    let end = at-end .put-decimal in
+    let last = c .put2 in
+    let t₁ = ascii "refused " in
+    let t₂ = t₁ ++ decimal (a .number) in
+    let l₂ = length-append t₁ (decimal (a .number)) in
+    let l₃ = length-append t₂ (ascii "\n") in
+    let s₁ = stands-more out 0 [] t₁ 0 (word .result) out (word .last .0) (omega (arith, room)) (stands-none out 0) (word .ensures .0) (word .ensures .1) in
+    let s₂ = stands-more out 0 t₁ (decimal (a .number)) (word .result) (end .result) (word .last .0) (end .last .0) (omega (arith, room, few, l₂)) s₁ (end .ensures .0) (end .ensures .1) in
+    stands-more out 0 t₂ (ascii "\n") (end .result) (last .result) (end .last .0) (last .last .0) (omega (arith, room, few, l₂, l₃)) s₂ (last .ensures .0) (last .ensures .1)
 
 pub put-refusal-spec : {M : Type 1} → statement M
 put-refusal-spec =

@@ -73,75 +73,108 @@ block-holds c =
 loop-holds : tie.Need-loop-holds Inv-loop2 μ-loop2 Inv-loop μ-loop Inv-block μ-block
 loop-holds c = let inv = c .block .inv in (inv .0, channels-first (c .block .g) (c .block .at) (inv .1), inv .2, inv .3)
 
+-- the loop over the channels, from before that over the bytes
+abbrev outer : tie.After-wide Inv-loop2 μ-loop2 Inv-loop μ-loop Inv-block μ-block → tie.At-loop Inv-loop2 μ-loop2 Inv-loop μ-loop Inv-block μ-block
+outer c = c .before .before .before .before
+
+-- the start, from the loop over the channels
+abbrev begin : tie.At-loop Inv-loop2 μ-loop2 Inv-loop μ-loop Inv-block μ-block → tie.Start Inv-loop2 μ-loop2 Inv-loop μ-loop Inv-block μ-block
+begin c = c .before .before .before
+
 loop2-holds : tie.Need-loop2-holds Inv-loop2 μ-loop2 Inv-loop μ-loop Inv-block μ-block
 loop2-holds c =
-    let loop = c .before .before .before .before in
+    let loop = outer c in
+    let a = begin loop .args in
+    let g = loop .before .block .g in
     let wides = loop .loop .wides in
     let ch = loop .loop .ch in
-    let inv = loop .loop .inv in (
-      subst (Upto (loop .before .before .before .args .c) (loop .before .before .before .args .buf .now) (loop .loop .at) (loop .loop .out-samples)) (map-kept wideOf wides ch (record { predictor = pos 0; index = 0 })) (inv .0),
-      bytes-first (loop .before .block .g) ch (loop .loop .at) (c .before .lesser .result) (inv .1) (c .before .before .before .loop-test .taken) (c .before .before .if1 .left) (c .before .lesser .ensures),
+    let inv = loop .loop .inv in
+    let at-end = c .before in (
+      subst (Upto (a .c) (a .buf .now) (loop .loop .at) (loop .loop .out-samples)) (map-kept wideOf wides ch (record { predictor = pos 0; index = 0 })) (inv .0),
+      bytes-first g ch (loop .loop .at) (at-end .lesser .result) (inv .1) (at-end .before .before .loop-test .taken) (at-end .before .if1 .left) (at-end .lesser .ensures),
       inv .2,
       inv .3,
-      frames-first (loop .before .before .before .args .c) (loop .before .block .g) ch (loop .loop .at),
+      frames-first (a .c) g ch (loop .loop .at),
     )
 
 -- where the two samples of a byte go
-places : (c : tie.In-loop2 Inv-loop2 μ-loop2 Inv-loop μ-loop Inv-block μ-block) → let at = c .before in let a = at .before .before .before .before .before .before .before .before .args in
-    (at .loop2 .k ≡ a .c * (2 * own (at .loop2 .inv .1) (c .loop2-test .taken) - 7) + at .before .before .before .before .before .loop .ch)
+places : (c : tie.In-loop2 Inv-loop2 μ-loop2 Inv-loop μ-loop Inv-block μ-block) → let at = c .before in let loop = outer (at .before) in let a = begin loop .args in
+    (at .loop2 .k ≡ a .c * (2 * own (at .loop2 .inv .1) (c .loop2-test .taken) - 7) + loop .loop .ch)
     × (at .loop2 .k + a .c < length (at .loop2 .out-samples))
     × (length (at .loop2 .out-samples) < 131072)
 places c =
     let at = c .before in
-    let a = at .before .before .before .before .before .before .before .before .args in
+    let loop = outer (at .before) in
     let inv = at .loop2 .inv in
     let h = c .loop2-test .taken in
-    let k-is = inv .4 ∙ ap (λ (f : ℕ). a .c * f + at .before .before .before .before .before .loop .ch) (sym (frame-is (inv .1) h)) in
+    let k-is = inv .4 ∙ ap (λ (f : ℕ). begin loop .args .c * f + loop .loop .ch) (sym (frame-is (inv .1) h)) in
     (k-is, omega (arith, k-is, room (inv .1) h, inv .2), omega (arith, inv .2, inv .1 .block .short))
 
+-- a byte's first step, from behind its second
+abbrev halfway : tie.After-struct-told2 Inv-loop2 μ-loop2 Inv-loop μ-loop Inv-block μ-block → tie.After-moved Inv-loop2 μ-loop2 Inv-loop μ-loop Inv-block μ-block
+halfway c = c .before .before .before .before .before
+
+-- the test of the loop, from behind a byte's first step
+abbrev tested : tie.After-moved Inv-loop2 μ-loop2 Inv-loop μ-loop Inv-block μ-block → tie.In-loop2 Inv-loop2 μ-loop2 Inv-loop μ-loop Inv-block μ-block
+tested c = c .before .before .before .before
+
 mul-first : tie.Need-mul-first Inv-loop2 μ-loop2 Inv-loop μ-loop Inv-block μ-block
-mul-first c = omega (arith, places (c .before .before .before .before .before .before .before .before .before))
+mul-first c = omega (arith, places (tested (halfway c)))
 
 slice-set-from-first : tie.Need-slice-set-from-first Inv-loop2 μ-loop2 Inv-loop μ-loop Inv-block μ-block
-slice-set-from-first c = omega (arith, places (c .before .before .before .before .before .before .before .before .before))
+slice-set-from-first c = omega (arith, places (tested (halfway c)))
 
 add-second : tie.Need-add-second Inv-loop2 μ-loop2 Inv-loop μ-loop Inv-block μ-block
-add-second c = omega (arith, places (c .before .before .before .before .before .before .before .before .before))
+add-second c = omega (arith, places (tested (halfway c)))
 
 mul-second : tie.Need-mul-second Inv-loop2 μ-loop2 Inv-loop μ-loop Inv-block μ-block
-mul-second c = omega (arith, places (c .before .before .before .before .before .before .before .before .before))
+mul-second c = omega (arith, places (tested (halfway c)))
 
 slice-set-from-second : tie.Need-slice-set-from-second Inv-loop2 μ-loop2 Inv-loop μ-loop Inv-block μ-block
-slice-set-from-second c = let at = c .before .before .before .before .before .before .before .before .before .before in omega (arith, places (c .before .before .before .before .before .before .before .before .before), length-set (at .loop2 .out-samples) (at .loop2 .k) (toZ w16 (ofZ w16 (c .before .before .before .before .before .moved .result .predictor))))
+slice-set-from-second c =
+    let at-first = halfway c in
+    let test = tested at-first in
+    let loop2 = test .before .loop2 in
+    omega (arith, places test, length-set (loop2 .out-samples) (loop2 .k) (toZ w16 (ofZ w16 (at-first .moved .result .predictor))))
 
 add-k-3 : tie.Need-add-k-3 Inv-loop2 μ-loop2 Inv-loop μ-loop Inv-block μ-block
-add-k-3 c = omega (arith, places (c .before .before .before .before .before .before .before .before .before))
+add-k-3 c = omega (arith, places (tested (halfway c)))
 
 loop2-less : tie.Need-loop2-less Inv-loop2 μ-loop2 Inv-loop μ-loop Inv-block μ-block
-loop2-less c = omega (arith, c .before .before .before .before .before .before .before .before .before .loop2-test .taken)
+loop2-less c = omega (arith, tested (halfway c) .loop2-test .taken)
 
 loop2-again : tie.Need-loop2-again Inv-loop2 μ-loop2 Inv-loop μ-loop Inv-block μ-block
 unfolding imaSteps
 loop2-again c =
-    let at = c .before .before .before .before .before .before .before .before .before .before in
-    let loop = at .before .before .before .before .before in
-    let a = loop .before .before .before .args in
-    let inv = at .loop2 .inv in
-    let h = c .before .before .before .before .before .before .before .before .before .loop2-test .taken in
-    let out = at .loop2 .out-samples in
-    let wides = loop .loop .wides in
-    let one = c .before .before .before .before .before .moved .result in
-    let two = c .before .before .moved2 .result in
+    let at-second = c .before .before in
+    let at-first = halfway c in
+    let one = at-first .moved .result in
+    let two = at-second .moved2 .result in
     let f : SFits w16 (one .predictor) = search needs in
-    let s : SFits w16 (two .predictor) = search needs in (
-      byte-turn (a .c) (omega (arith, inv .1 .channel)) (a .buf .now) (inv .1) h (at .loop2 .k) out (map wideOf wides) (wideOf (at .loop2 .wide)) (wideOf one) (wideOf two)
-          (toZ w16 (ofZ w16 (one .predictor))) (toZ w16 (ofZ w16 (two .predictor)))
-          (places (c .before .before .before .before .before .before .before .before .before) .0) (inv .2) (omega (arith, inv .1 .channel, inv .1 .block .few, length-map wides wideOf, inv .3))
-          (c .before .before .before .before .before .moved .ensures ∙ ap (stepped sixteen imaSteps (wideOf (at .loop2 .wide))) (c .before .before .before .before .before .before .low-nibble .ensures)) (c .before .before .moved2 .ensures ∙ ap (stepped sixteen imaSteps (wideOf one)) (c .before .before .before .high-nibble .ensures)) (toZ-ofZ w16 _ f) (toZ-ofZ w16 _ s) (inv .0),
-      bytes-next (loop .before .block .g) (loop .loop .ch) (loop .loop .at) (at .before .before .lesser .result) (at .loop2 .at) (inv .1) h,
-      length-set (set out (at .loop2 .k) (toZ w16 (ofZ w16 (one .predictor)))) (at .loop2 .k + a .c) (toZ w16 (ofZ w16 (two .predictor))) ∙ length-set out (at .loop2 .k) (toZ w16 (ofZ w16 (one .predictor))) ∙ inv .2,
+    let s : SFits w16 (two .predictor) = search needs in
+    let test = tested at-first in
+    let at = test .before in
+    let loop = outer (at .before) in
+    let a = begin loop .args in
+    let inv = at .loop2 .inv in
+    let h = test .loop2-test .taken in
+    let g = loop .before .block .g in
+    let ch = loop .loop .ch in
+    let k = at .loop2 .k in
+    let out = at .loop2 .out-samples in
+    let wides = map wideOf (loop .loop .wides) in
+    let wide = wideOf (at .loop2 .wide) in
+    let x = toZ w16 (ofZ w16 (one .predictor)) in
+    let y = toZ w16 (ofZ w16 (two .predictor)) in
+    let low = at-first .moved .ensures ∙ ap (stepped sixteen imaSteps wide) (at-first .before .low-nibble .ensures) in
+    let high = at-second .moved2 .ensures ∙ ap (stepped sixteen imaSteps (wideOf one)) (at-second .before .high-nibble .ensures) in
+    let some : ch < length wides = omega (arith, inv .1 .channel, inv .1 .block .few, length-map (loop .loop .wides) wideOf, inv .3) in (
+      byte-turn (a .c) (omega (arith, inv .1 .channel)) (a .buf .now) (inv .1) h k out wides wide (wideOf one) (wideOf two) x y
+          (places test .0) (inv .2) some low high (toZ-ofZ w16 _ f) (toZ-ofZ w16 _ s) (inv .0),
+      bytes-next g ch (loop .loop .at) (at .before .before .lesser .result) (at .loop2 .at) (inv .1) h,
+      length-set (set out k x) (k + a .c) y ∙ length-set out k x ∙ inv .2,
       inv .3,
-      frames-next (a .c) (loop .before .block .g) (loop .loop .ch) (loop .loop .at) (at .loop2 .at) (at .loop2 .k) (inv .1 .begun) (inv .4),
+      frames-next (a .c) g ch (loop .loop .at) (at .loop2 .at) k (inv .1 .begun) (inv .4),
     )
 
 loop-less : tie.Need-loop-less Inv-loop2 μ-loop2 Inv-loop μ-loop Inv-block μ-block
@@ -150,7 +183,7 @@ loop-less c = omega (arith, c .before .loop2 .inv .1 .channel)
 loop-again : tie.Need-loop-again Inv-loop2 μ-loop2 Inv-loop μ-loop Inv-block μ-block
 loop-again c =
     let at = c .before in
-    let loop = at .before .before .before .before .before in
+    let loop = outer (at .before) in
     let inv = at .loop2 .inv in (
       rw (map-set wideOf (loop .loop .wides) (loop .loop .ch) (at .loop2 .wide)) (inv .0),
       channels-next (loop .before .block .g) (loop .loop .ch) (loop .loop .at) (at .before .before .lesser .result) (at .loop2 .at) (inv .1) (c .loop2-test .left),
@@ -167,12 +200,12 @@ block-again c =
     (inv .0, groups-next (c .before .before .block .g) (c .before .loop .ch) (c .before .loop .at) (inv .1) (c .loop-test .left), inv .2, inv .3)
 
 same-length : tie.Need-same-length Inv-loop2 μ-loop2 Inv-loop μ-loop Inv-block μ-block
-same-length c = let at = c .before .before in at .loop .inv .2 ∙ sym (sizes (at .before .before .before) .fits)
+same-length c = let at = c .before .before in at .loop .inv .2 ∙ sym (sizes (begin at) .fits)
 
 returns : tie.Need-returns Inv-loop2 μ-loop2 Inv-loop μ-loop Inv-block μ-block
 returns c =
     let loop = c .before .before in
-    let a = loop .before .before .before .args in
+    let a = begin loop .args in
     let inv = loop .loop .inv in
     let n = length (a .buf .now) in
     let is = inv .1 .block in

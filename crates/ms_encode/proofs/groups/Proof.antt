@@ -81,31 +81,50 @@ block-holds c =
 loop-holds : tie.Need-loop-holds Inv-loop2 μ-loop2 Inv-loop μ-loop Inv-block μ-block
 loop-holds c = let inv = c .block .inv in ((λ starts u. u), channels-first (c .block .g) (c .block .at) (inv .1), inv .2, inv .3, inv .4)
 
+-- the loop over the channels, from before that over the bytes
+abbrev outer : tie.After-widened Inv-loop2 μ-loop2 Inv-loop μ-loop Inv-block μ-block → tie.At-loop Inv-loop2 μ-loop2 Inv-loop μ-loop Inv-block μ-block
+outer c = c .before .before .before .before .before
+
+-- the start, from the loop over the channels
+abbrev begin : tie.At-loop Inv-loop2 μ-loop2 Inv-loop μ-loop Inv-block μ-block → tie.Start Inv-loop2 μ-loop2 Inv-loop μ-loop Inv-block μ-block
+begin c = c .before .before .before
+
 loop2-holds : tie.Need-loop2-holds Inv-loop2 μ-loop2 Inv-loop μ-loop Inv-block μ-block
 loop2-holds c =
-    let loop = c .before .before .before .before .before in
-    let inv = loop .loop .inv in (
+    let loop = outer c in
+    let g = loop .before .block .g in
+    let ch = loop .loop .ch in
+    let inv = loop .loop .inv in
+    let at-end = c .before .before in (
       (λ starts u. u),
-      bytes-first (loop .before .block .g) (loop .loop .ch) (loop .loop .at) (c .before .before .lesser .result) (inv .1) (c .before .before .before .before .loop-test .taken) (c .before .before .before .if1 .left) (c .before .before .lesser .ensures),
+      bytes-first g ch (loop .loop .at) (at-end .lesser .result) (inv .1) (at-end .before .before .loop-test .taken) (at-end .before .if1 .left) (at-end .lesser .ensures),
       inv .2,
       inv .3,
       inv .4,
-      frames-first (loop .before .before .before .args .c) (loop .before .block .g) (loop .loop .ch) (loop .loop .at),
+      frames-first (begin loop .args .c) g ch (loop .loop .at),
       c .widened .ensures .1,
     )
 
 -- where the two samples of a byte stand
-places : (c : tie.In-loop2 Inv-loop2 μ-loop2 Inv-loop μ-loop Inv-block μ-block) → let at = c .before in let a = at .before .before .before .before .before .before .before .before .before .args in
-    (at .loop2 .k ≡ a .c * (2 * own (at .loop2 .inv .1) (c .loop2-test .taken) - 7) + at .before .before .before .before .before .before .loop .ch)
+places : (c : tie.In-loop2 Inv-loop2 μ-loop2 Inv-loop μ-loop Inv-block μ-block) → let at = c .before in let loop = outer (at .before) in let a = begin loop .args in
+    (at .loop2 .k ≡ a .c * (2 * own (at .loop2 .inv .1) (c .loop2-test .taken) - 7) + loop .loop .ch)
     × (at .loop2 .k + a .c < length (a .samples .now))
     × (length (a .samples .now) < 131072)
 places c =
     let at = c .before in
-    let a = at .before .before .before .before .before .before .before .before .before .args in
+    let loop = outer (at .before) in
     let inv = at .loop2 .inv in
     let h = c .loop2-test .taken in
-    let k-is = inv .5 ∙ ap (λ (f : ℕ). a .c * f + at .before .before .before .before .before .before .loop .ch) (sym (frame-is (inv .1) h)) in
+    let k-is = inv .5 ∙ ap (λ (f : ℕ). begin loop .args .c * f + loop .loop .ch) (sym (frame-is (inv .1) h)) in
     (k-is, omega (arith, k-is, room (inv .1) h, inv .2), omega (arith, inv .2, inv .1 .block .short))
+
+-- a byte's first step, from behind its second
+abbrev halfway : tie.After-pack Inv-loop2 μ-loop2 Inv-loop μ-loop Inv-block μ-block → tie.After-coded Inv-loop2 μ-loop2 Inv-loop μ-loop Inv-block μ-block
+halfway c = c .before .before .before .before .before
+
+-- the test of the loop, from behind a byte's first step
+abbrev tested : tie.After-coded Inv-loop2 μ-loop2 Inv-loop μ-loop Inv-block μ-block → tie.In-loop2 Inv-loop2 μ-loop2 Inv-loop μ-loop Inv-block μ-block
+tested c = c .before .before .before
 
 mul-coded : tie.Need-mul-coded Inv-loop2 μ-loop2 Inv-loop μ-loop Inv-block μ-block
 mul-coded c = omega (arith, places (c .before))
@@ -114,52 +133,57 @@ shared-slice-copy-out-coded : tie.Need-shared-slice-copy-out-coded Inv-loop2 μ-
 shared-slice-copy-out-coded c = omega (arith, places (c .before))
 
 add-coded : tie.Need-add-coded Inv-loop2 μ-loop2 Inv-loop μ-loop Inv-block μ-block
-add-coded c = omega (arith, places (c .before .before .before .before))
+add-coded c = omega (arith, places (tested (c .before)))
 
 mul-coded-2 : tie.Need-mul-coded-2 Inv-loop2 μ-loop2 Inv-loop μ-loop Inv-block μ-block
-mul-coded-2 c = omega (arith, places (c .before .before .before .before))
+mul-coded-2 c = omega (arith, places (tested (c .before)))
 
 shared-slice-copy-out-coded-2 : tie.Need-shared-slice-copy-out-coded-2 Inv-loop2 μ-loop2 Inv-loop μ-loop Inv-block μ-block
-shared-slice-copy-out-coded-2 c = omega (arith, places (c .before .before .before .before))
+shared-slice-copy-out-coded-2 c = omega (arith, places (tested (c .before)))
 
 add-k-3 : tie.Need-add-k-3 Inv-loop2 μ-loop2 Inv-loop μ-loop Inv-block μ-block
-add-k-3 c = omega (arith, places (c .before .before .before .before .before .before .before .before))
+add-k-3 c = omega (arith, places (tested (halfway c)))
 
 loop2-less : tie.Need-loop2-less Inv-loop2 μ-loop2 Inv-loop μ-loop Inv-block μ-block
-loop2-less c = omega (arith, c .before .before .before .before .before .before .before .before .loop2-test .taken)
+loop2-less c = omega (arith, tested (halfway c) .loop2-test .taken)
 
 loop2-again : tie.Need-loop2-again Inv-loop2 μ-loop2 Inv-loop μ-loop Inv-block μ-block
 unfolding imaSteps
 loop2-again c =
-    let at = c .before .before .before .before .before .before .before .before .before in
-    let loop = at .before .before .before .before .before .before in
-    let a = loop .before .before .before .args in
+    let at-second = c .before .before in
+    let at-first = halfway c in
+    let test = tested at-first in
+    let at = test .before in
+    let loop = outer (at .before) in
+    let a = begin loop .args in
     let inv = at .loop2 .inv in
-    let h = c .before .before .before .before .before .before .before .before .loop2-test .taken in
+    let h = test .loop2-test .taken in
+    let g = loop .before .block .g in
+    let ch = loop .loop .ch in
     let k = at .loop2 .k in
     let out = at .loop2 .out-buf in
     let samples = a .samples .now in
     let states = loop .loop .states in
     let w = wideOf (at .loop2 .wide) in
-    let one = c .before .before .before .before .before .coded in
-    let two = c .before .before .coded2 in
+    let one = at-first .coded in
+    let two = at-second .coded2 in
     let mid = wideOf (one .result .next) in
-    let f : SFits w16 (getD samples k (pos 0)) = search (needs, c .before .before .before .before .before .before .coded-arg .given) in
-    let s : SFits w16 (getD samples (k + a .c) (pos 0)) = search (needs, c .before .before .before .coded-arg2 .given) in
+    let f : SFits w16 (getD samples k (pos 0)) = search (needs, at-first .before .coded-arg .given) in
+    let s : SFits w16 (getD samples (k + a .c) (pos 0)) = search (needs, at-second .before .coded-arg2 .given) in
     let x = toZ w16 (ofZ w16 (getD samples k (pos 0))) in
     let y = toZ w16 (ofZ w16 (getD samples (k + a .c) (pos 0))) in
     let one-is = one .ensures .2 ∙ ap (stepped sixteen imaSteps w) (one .ensures .0) in
     let two-is = two .ensures .2 ∙ ap (stepped sixteen imaSteps mid) (two .ensures .0) in
-    let some : loop .loop .ch < length (map stateOf states) = omega (arith, inv .1 .channel, inv .1 .block .few, length-map states stateOf, inv .4) in
+    let some : ch < length (map stateOf states) = omega (arith, inv .1 .channel, inv .1 .block .few, length-map states stateOf, inv .4) in
     let is = subst (Shape (a .c) (length (a .out-buf .now))) (sym (inv .2)) (inv .1 .block) in
     let b-is : c .pack .result ≡ 16 * two .result .nibble + one .result .nibble = c .pack .ensures ∙ omega (arith, one .ensures .1, two .ensures .1) in (
       (λ starts u. byte-turn samples starts is (inv .1) h k out (map stateOf states) w mid (wideOf (two .result .next)) x y (c .pack .result) (inv .3) some
-          (places (c .before .before .before .before .before .before .before .before) .0) (toZ-ofZ w16 _ f) (toZ-ofZ w16 _ s) one-is two-is (b-is ∙ ap₂ (λ (v u : ℕ). 16 * v + u) (two .ensures .0) (one .ensures .0)) (inv .0 starts u)),
-      bytes-next (loop .before .block .g) (loop .loop .ch) (loop .loop .at) (at .before .before .before .lesser .result) (at .loop2 .at) (inv .1) h,
+          (places test .0) (toZ-ofZ w16 _ f) (toZ-ofZ w16 _ s) one-is two-is (b-is ∙ ap₂ (λ (v u : ℕ). 16 * v + u) (two .ensures .0) (one .ensures .0)) (inv .0 starts u)),
+      bytes-next g ch (loop .loop .at) (at .before .before .before .lesser .result) (at .loop2 .at) (inv .1) h,
       inv .2,
       length-set out (at .loop2 .at) (c .pack .result) ∙ inv .3,
       inv .4,
-      frames-next (a .c) (loop .before .block .g) (loop .loop .ch) (loop .loop .at) (at .loop2 .at) k (inv .1 .begun) (inv .5),
+      frames-next (a .c) g ch (loop .loop .at) (at .loop2 .at) k (inv .1 .begun) (inv .5),
       moved-lt imaSteps mid (wideOf (two .result .next)) (two .result .nibble) (two .ensures .2),
     )
 
@@ -169,8 +193,8 @@ loop-less c = omega (arith, c .before .before .loop2 .inv .1 .channel)
 loop-again : tie.Need-loop-again Inv-loop2 μ-loop2 Inv-loop μ-loop Inv-block μ-block
 loop-again c =
     let at = c .before .before in
-    let loop = at .before .before .before .before .before .before in
-    let a = loop .before .before .before .args in
+    let loop = outer (at .before) in
+    let a = begin loop .args in
     let inv = at .loop2 .inv in
     let states = loop .loop .states in
     let ch = loop .loop .ch in
@@ -205,7 +229,7 @@ same-length c = c .before .before .loop .inv .3
 returns : tie.Need-returns Inv-loop2 μ-loop2 Inv-loop μ-loop Inv-block μ-block
 returns c =
     let loop = c .before .before in
-    let a = loop .before .before .before .args in
+    let a = begin loop .args in
     let inv = loop .loop .inv in
     let starts = map stateOf (a .given) in
     let states = map stateOf (loop .loop .states) in

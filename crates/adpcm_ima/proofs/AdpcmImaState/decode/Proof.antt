@@ -13,10 +13,12 @@ use Rattle.adpcm_ima.proofs.AdpcmImaState.decode.Tie as tie
 returns : tie.Need-returns
 unfolding imaSteps
 returns c =
-    let s = c .before .before .before .before .before .args in
-    let next = c .before .before .moved .ensures ∙ ap (λ (st : State). stepped sixteen imaSteps st (s .nibble)) (c .before .before .before .before .widened .ensures .0) in
-    let state = c .narrowed .ensures ∙ ap narrow next ∙ narrow-is imaSteps _ (s .nibble) in
-    let f : SFits w16 (c .before .before .moved .result .predictor) = search needs in
+    let at-moved = c .before .before in
+    let at-wide = at-moved .before .before in
+    let nibble = at-wide .before .args .nibble in
+    let f : SFits w16 (at-moved .moved .result .predictor) = search needs in
+    let next = at-moved .moved .ensures ∙ ap (λ (st : State). stepped sixteen imaSteps st nibble) (at-wide .widened .ensures .0) in
+    let state = c .narrowed .ensures ∙ ap narrow next ∙ narrow-is imaSteps _ nibble in
     (state, toZ-ofZ w16 _ f ∙ sym (ap (λ (st : State). st .predictor) (c .narrowed .ensures)))
 
 pub decode-spec : {M : Type 1} → statement M

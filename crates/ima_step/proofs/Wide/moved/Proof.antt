@@ -11,10 +11,12 @@ use Rattle.ima_step.proofs.Wide.moved.Tie as tie
 returns : tie.Need-returns
 unfolding stepped stepAt
 returns c =
-    let s = c .before .before .before .before .before in
+    let at-step = c .before .before .before in
+    let at-place = at-step .before in
+    let s = at-place .before in
     let f : SFits w16 (s .args .self .predictor) = search needs in
     let g : SFits w16 (c .before .predicted .result) = search needs in
-    rw (toZ-ofZ w16 _ g, c .before .predicted .ensures, toZ-ofZ w16 _ f, c .next-index .ensures, c .before .before .before .step .ensures .0, c .before .before .before .before .lesser .ensures) refl
+    rw (toZ-ofZ w16 _ g, c .before .predicted .ensures, toZ-ofZ w16 _ f, c .next-index .ensures, at-step .step .ensures .0, at-place .lesser .ensures) refl
 
 pub moved-spec : {M : Type 1} → statement M
 moved-spec =
