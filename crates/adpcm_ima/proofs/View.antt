@@ -33,7 +33,7 @@ sameZ-true (negsuc a) (negsuc b) t = ap negsuc (eqb-true a b t)
 pub same-is : (s t : State) → (sameState s t ≡ true) ↔ (s ≡ t)
 same-is s t = (
   λ e.
-  let (p, i) = and-eq-true-iff (sameZ (s .predictor) (t .predictor)) (eqb (s .index) (t .index)) .0 e in
-  ap₂ state (sameZ-true (s .predictor) (t .predictor) p) (eqb-true (s .index) (t .index) i),
+      let (p, i) = and-eq-true-iff (sameZ (s .predictor) (t .predictor)) (eqb (s .index) (t .index)) .0 e in
+      ap₂ state (sameZ-true (s .predictor) (t .predictor) p) (eqb-true (s .index) (t .index) i),
   λ e. rw e (rw (sameZ-itself (t .predictor)) (eq-eqb (t .index) (t .index) refl)),
 )

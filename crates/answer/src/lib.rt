@@ -50,7 +50,13 @@ fn answer_block(channels: u8, block: &[u8], out: &mut [u8; ROOM]) -> usize
 }
 
 // The first line: `same`, or what changed.
-fn put_first_line(channels: u8, changed: bool, old: &[u8], new: &[u8], out: &mut [u8; ROOM]) -> usize
+fn put_first_line(
+    channels: u8,
+    changed: bool,
+    old: &[u8],
+    new: &[u8],
+    out: &mut [u8; ROOM],
+) -> usize
     requires { ⌜ Small channels (now old) × (length (now new) ≡ length (now old)) ⌝ }
     ensures { λ r. ⌜ Stands (now (out .entry)) 0 (firstLine changed (lossOf channels (now (old .entry)) (now (new .entry)))) r (now (out .exit)) × (r ≤ 52) ⌝ }
 {
