@@ -133,7 +133,7 @@ impl AdpcmImaState {
     }
 
     // The two numbers of a block's header in place of the state's own.
-    pub fn reloaded(self, predictor: i16, step_index: u8) -> Self
+    pub fn reload(self, predictor: i16, step_index: u8) -> Self
         ensures { λ r. ⌜ stateOf r ≡ state predictor «step_index» ⌝ }
     {
         Self {
@@ -154,7 +154,7 @@ impl AdpcmImaState {
     }
 
     // The state inside a block.
-    pub fn widened(self) -> Wide
+    pub fn widen(self) -> Wide
         ensures { λ r. ⌜ (wideOf r ≡ stateOf self) × (r .index < 256) ⌝ }
     {
         Wide {
@@ -164,7 +164,7 @@ impl AdpcmImaState {
     }
 
     // The state behind a block. An index that came from a state or from a step is below 256.
-    pub fn narrowed(wide: Wide) -> Self
+    pub fn narrow(wide: Wide) -> Self
         ensures { λ r. ⌜ stateOf r ≡ narrow (wideOf wide) ⌝ }
     {
         Self {
@@ -178,11 +178,11 @@ impl AdpcmImaState {
         ensures { λ r. ⌜ (stateOf (r .state) ≡ stepped sixteen imaSteps (stateOf self) nibble) × (r .sample ≡ r .state .predictor) ⌝ }
     {
         let steps = IMA_STEP_TABLE;
-        let next = self.widened().moved(&steps, nibble as u32);
+        let next = self.widen().decode_step(&steps, nibble as u32);
         let sample = next.predictor;
         Decoded {
             sample,
-            state: AdpcmImaState::narrowed(next),
+            state: AdpcmImaState::narrow(next),
         }
     }
 
@@ -190,10 +190,10 @@ impl AdpcmImaState {
         ensures { λ r. ⌜ (r .nibble ≡ emitted sixteen imaSteps (stateOf self) sample) × (stateOf (r .state) ≡ stepped sixteen imaSteps (stateOf self) (r .nibble)) ⌝ }
     {
         let steps = IMA_STEP_TABLE;
-        let coded = self.widened().coded(&steps, sample);
+        let coded = self.widen().encode_step(&steps, sample);
         Encoded {
             nibble: coded.nibble as u8,
-            state: AdpcmImaState::narrowed(coded.next),
+            state: AdpcmImaState::narrow(coded.next),
         }
     }
 }

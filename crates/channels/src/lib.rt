@@ -13,7 +13,7 @@ pub fn states_of(predictors: [i16; MOST], step_indices: [u8; MOST]) -> [AdpcmIma
     let mut e = 0;
     while e < MOST {
         let state = states[e];
-        states[e] = state.reloaded(predictors[e], step_indices[e]);
+        states[e] = state.reload(predictors[e], step_indices[e]);
         e += 1;
     }
     states

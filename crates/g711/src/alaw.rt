@@ -2,7 +2,7 @@
 ghost use mathlib.Core.Path.{_≡_};
 ghost use Rattle.g711.specs.Law.{A-law, sampleOf, codeOf};
 use crate::code_word;
-use num::complemented;
+use num::complement;
 use num::larger;
 
 // decoding table, as the Rust has it
@@ -276,7 +276,7 @@ pub fn decode_alaw(encoded: u8) -> i16
 pub fn encode_alaw(linear: i16) -> u8
     ensures { λ r. ⌜ r ≡ codeOf A-law linear ⌝ }
 {
-    let inputval = complemented(linear >> 3);
+    let inputval = complement(linear >> 3);
     let bits = 32 - u32::leading_zeros(inputval);
     let segment = larger(5, bits) - 5;
     code_word(linear, segment, (inputval >> larger(1, segment)) % 16, 0xd5)

@@ -2,7 +2,7 @@
 ghost use mathlib.Core.Path.{_≡_};
 ghost use Rattle.g711.specs.Law.{mu-law, sampleOf, codeOf};
 use crate::code_word;
-use num::complemented;
+use num::complement;
 
 // decoding table, as the Rust has it
 const ULAW_VALUES: [i16; 256] = [
@@ -275,7 +275,7 @@ pub fn decode_ulaw(encoded: u8) -> i16
 pub fn encode_ulaw(linear: i16) -> u8
     ensures { λ r. ⌜ r ≡ codeOf mu-law linear ⌝ }
 {
-    let inputval = complemented(linear >> 2) + 33;
+    let inputval = complement(linear >> 2) + 33;
     if inputval > 8191 {
         return code_word(linear, 7, 15, 0xff);
     }

@@ -5,7 +5,7 @@ use ima4_call::Answer;
 use ima4_call::is_block;
 use ima4_call::is_run;
 use ima4_call::refuse;
-use ima4_header::started;
+use ima4_header::start_state;
 use num::high_nibble;
 use num::low_nibble;
 ghost use mathlib.Core.Path.{_≡_};
@@ -21,12 +21,12 @@ pub fn decode_adpcm_ima_ima4(buf: &[u8], state: AdpcmImaState, out_samples: &mut
         return refuse(state);
     }
     let steps = IMA_STEP_TABLE;
-    let mut wide = started(state, buf[0], buf[1]).widened();
+    let mut wide = start_state(state, buf[0], buf[1]).widen();
     let mut k = 0;
     while k < 32 {
         let byte = buf[k + 2];
-        let between = wide.moved(&steps, low_nibble(byte));
-        wide = between.moved(&steps, high_nibble(byte));
+        let between = wide.decode_step(&steps, low_nibble(byte));
+        wide = between.decode_step(&steps, high_nibble(byte));
         let first = between.predictor;
         let second = wide.predictor;
         out_samples[2 * k] = first;
@@ -35,7 +35,7 @@ pub fn decode_adpcm_ima_ima4(buf: &[u8], state: AdpcmImaState, out_samples: &mut
     }
     Answer {
         refusal: 0,
-        state: AdpcmImaState::narrowed(wide),
+        state: AdpcmImaState::narrow(wide),
     }
 }
 

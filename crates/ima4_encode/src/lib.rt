@@ -24,18 +24,18 @@ pub fn encode_adpcm_ima_ima4(samples: &[i16], state: AdpcmImaState, out_buf: &mu
     out_buf[0] = header.high;
     out_buf[1] = header.low;
     let steps = IMA_STEP_TABLE;
-    let mut wide = lowered_state(state).widened();
+    let mut wide = lowered_state(state).widen();
     let mut k = 0;
     while k < 32 {
-        let low = wide.coded(&steps, samples[2 * k]);
-        let high = low.next.coded(&steps, samples[2 * k + 1]);
+        let low = wide.encode_step(&steps, samples[2 * k]);
+        let high = low.next.encode_step(&steps, samples[2 * k + 1]);
         wide = high.next;
         out_buf[k + 2] = pack(low.nibble, high.nibble);
         k += 1;
     }
     Answer {
         refusal: 0,
-        state: AdpcmImaState::narrowed(wide),
+        state: AdpcmImaState::narrow(wide),
     }
 }
 

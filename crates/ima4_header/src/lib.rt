@@ -19,12 +19,12 @@ pub struct Header {
 }
 
 // The decoder's own state, or that of the header.
-pub fn started(own: AdpcmImaState, high: u8, low: u8) -> AdpcmImaState
+pub fn start_state(own: AdpcmImaState, high: u8, low: u8) -> AdpcmImaState
     ensures { λ r. ⌜ stateOf r ≡ startState (stateOf own) high low ⌝ }
 {
     let predictor = from_halves(high, low / 128 * 128);
     let index = lesser((low % 128) as usize, 88);
-    let head = own.reloaded(predictor, index as u8);
+    let head = own.reload(predictor, index as u8);
     if keeps(own, head) { own } else { head }
 }
 
@@ -33,7 +33,7 @@ pub fn lowered_state(state: AdpcmImaState) -> AdpcmImaState
     ensures { λ r. ⌜ stateOf r ≡ loweredState (stateOf state) ⌝ }
 {
     let index = lesser(state.step_index as usize, 88);
-    state.reloaded(state.predictor, index as u8)
+    state.reload(state.predictor, index as u8)
 }
 
 // Nine top bits of the predictor, seven of the lowered index.

@@ -35,7 +35,7 @@ pub fn takes(r: u32, x: u32) -> u32
 }
 
 // What the greedy taking takes is the difference without what it leaves.
-pub fn taken(s: u32, r: u32) -> u32
+pub fn greedy_take(s: u32, r: u32) -> u32
     ensures { λ n. ⌜ (n ≡ m s (greedy s r)) × (n ≤ 2 * s) ⌝ }
 {
     r - left(left(left(r, s), s / 2), s / 4)

@@ -1,16 +1,16 @@
-// One step of IMA ADPCM, as a block's loop calls it: the table lent, and a state that is wide inside. `moved` decodes a nibble, `coded` encodes a sample.
+// One step of IMA ADPCM, as a block's loop calls it: the table lent, and a state that is wide inside. `decode_step` decodes a nibble, `encode_step` encodes a sample.
 mod nibble;
 
 use ima_arithmetic::difference;
+use ima_arithmetic::greedy_take;
 use ima_arithmetic::sign;
-use ima_arithmetic::taken;
 use ima_arithmetic::takes;
 use ima_arithmetic::towards;
 use nibble::absolute;
 use nibble::next_index;
-use nibble::predicted;
-use nibble::raised;
-use nibble::reached;
+use nibble::predict;
+use nibble::raise_index;
+use nibble::reach_count;
 use nibble::step;
 use num::lesser;
 ghost use mathlib.Core.Path.{_≡_};
@@ -31,12 +31,12 @@ pub struct Coded {
 
 impl Wide {
     // Only the lowest four bits of `nibble` count. The sample that it decodes to is the new predictor.
-    pub fn moved(self, steps: &[u16; 89], nibble: u32) -> Self
+    pub fn decode_step(self, steps: &[u16; 89], nibble: u32) -> Self
         ensures { λ r. ⌜ wideOf r ≡ stepped sixteen (now (steps .entry)) (wideOf self) nibble ⌝ }
     {
         let place = lesser(self.index, 88);
         let s = step(steps, place);
-        let predictor = predicted(s, self.predictor, nibble);
+        let predictor = predict(s, self.predictor, nibble);
         Self {
             predictor,
             index: next_index(place, nibble),
@@ -44,22 +44,22 @@ impl Wide {
     }
 
     // The nibble of a sample, and the state behind it, with what both need found once.
-    pub fn coded(self, steps: &[u16; 89], sample: i16) -> Coded
+    pub fn encode_step(self, steps: &[u16; 89], sample: i16) -> Coded
         ensures { λ r. ⌜ (r .nibble ≡ emitted sixteen (now (steps .entry)) (wideOf self) sample) × (r .nibble < 16) × (wideOf (r .next) ≡ stepped sixteen (now (steps .entry)) (wideOf self) (r .nibble)) ⌝ }
     {
         let index = lesser(self.index, 88);
         let s = step(steps, index);
         let x = difference(self.predictor, sample);
         let r = absolute(x);
-        let above = reached(s, s, r);
+        let above = reach_count(s, s, r);
         let four = takes(r, s);
-        let nibble = sign(x) + reached(0, s, r) + four + above;
-        let predictor = towards(self.predictor, x < 0, taken(s, r) + s / 8);
+        let nibble = sign(x) + reach_count(0, s, r) + four + above;
+        let predictor = towards(self.predictor, x < 0, greedy_take(s, r) + s / 8);
         Coded {
             nibble,
             next: Self {
                 predictor,
-                index: raised(index, four, above),
+                index: raise_index(index, four, above),
             },
         }
     }

@@ -17,17 +17,17 @@ pub(crate) fn step(steps: &[u16; 89], index: usize) -> u32
     requires { ⌜ index ≤ 88 ⌝ }
     ensures { λ r. ⌜ (r ≡ getD (now (steps .entry)) index 0) × (r < 65536) ⌝ }
 {
-    extended(steps[index])
+    extend(steps[index])
 }
 
 // Of an entry behind a reference nothing is known, of an argument that it fits its type.
-fn extended(x: u16) -> u32
+fn extend(x: u16) -> u32
     ensures { λ r. ⌜ (r ≡ x) × (r < 65536) ⌝ }
 {
     x as u32
 }
 
-pub(crate) fn predicted(s: u32, predictor: i16, nibble: u32) -> i16
+pub(crate) fn predict(s: u32, predictor: i16, nibble: u32) -> i16
     requires { ⌜ s < 65536 ⌝ }
     ensures { λ r. ⌜ r ≡ Step.predicted (negsuc 32767) (pos 32767) s predictor nibble ⌝ }
 {
@@ -62,7 +62,7 @@ pub(crate) fn next_index(index: usize, nibble: u32) -> usize
 }
 
 // A magnitude of 4 and more is 4 and what is reached above the step. What is added is one more than the move, as in `next_index`.
-pub(crate) fn raised(index: usize, four: u32, above: u32) -> usize
+pub(crate) fn raise_index(index: usize, four: u32, above: u32) -> usize
     requires { ⌜ (index ≤ 88) × (four ≤ 1) × (above ≤ 3) ⌝ }
     ensures { λ r. ⌜ r ≡ min (index + (3 * four + 2 * above) - 1) 88 ⌝ }
 {
@@ -78,7 +78,7 @@ pub(crate) fn absolute(x: i32) -> u32
 
 // What the greedy taking gives is how many of the seven sums of parts the difference reaches: s, and three below and three above it. Counting them
 // asks for no branch. How many of a + s/4, a + s/2 and a + s/2 + s/4 it reaches:
-pub(crate) fn reached(a: u32, s: u32, r: u32) -> u32
+pub(crate) fn reach_count(a: u32, s: u32, r: u32) -> u32
     requires { ⌜ (a < 65536) × (s < 65536) ⌝ }
     ensures { λ n. ⌜ (n ≡ Step.part (Step.takes r (a + s / 4)) 1 + Step.part (Step.takes r (a + s / 2)) 1 + Step.part (Step.takes r (a + s / 2 + s / 4)) 1) × (n ≤ 3) ⌝ }
 {

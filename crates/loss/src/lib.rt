@@ -41,7 +41,7 @@ pub fn loss_report(before: &[i16], after: &[i16]) -> Loss
         refusal: 0,
         count: all.count,
         first: first_from(before, after, all.alike),
-        peak: capped(all.largest),
+        peak: cap(all.largest),
     }
 }
 
@@ -140,7 +140,7 @@ fn first_from(before: &[i16], after: &[i16], start: usize) -> First
     First::Nowhere
 }
 
-fn capped(d: u32) -> u16
+fn cap(d: u32) -> u16
     ensures { λ r. ⌜ r ≡ Report.capped d ⌝ }
 {
     lesser(d as usize, 32767) as u16

@@ -35,10 +35,10 @@ fn heads(c: usize, buf: &[u8], out_samples: &mut [i16]) -> [Wide; MOST]
     requires { ⌜ Taken c (length (now buf)) (length (now «out_samples»)) ⌝ }
     ensures { λ r. ⌜ Headed c (now (buf .entry)) c (now («out_samples» .exit)) (map wideOf r) ⌝ }
 {
-    let mut wides = [head(0, 0, 0).widened(); MOST];
+    let mut wides = [head(0, 0, 0).widen(); MOST];
     let mut ch = 0;
     while ch < c {
-        let wide = head(buf[4 * ch], buf[4 * ch + 1], buf[4 * ch + 2]).widened();
+        let wide = head(buf[4 * ch], buf[4 * ch + 1], buf[4 * ch + 2]).widen();
         let first = wide.predictor;
         out_samples[ch] = first;
         wides[ch] = wide;
@@ -69,8 +69,8 @@ fn groups(c: usize, buf: &[u8], heads: [Wide; MOST], out_samples: &mut [i16])
             let mut k = c * (8 * g + 1) + ch;
             while at < end {
                 let byte = buf[at];
-                let between = wide.moved(&steps, low_nibble(byte));
-                wide = between.moved(&steps, high_nibble(byte));
+                let between = wide.decode_step(&steps, low_nibble(byte));
+                wide = between.decode_step(&steps, high_nibble(byte));
                 let first = between.predictor;
                 let second = wide.predictor;
                 out_samples[k] = first;

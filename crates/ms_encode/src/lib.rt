@@ -70,7 +70,7 @@ fn heads(
         out_buf[4 * ch + 1] = high_half(bits);
         out_buf[4 * ch + 2] = index;
         out_buf[4 * ch + 3] = 0;
-        states[ch] = state.reloaded(first, index);
+        states[ch] = state.reload(first, index);
         ch += 1;
     }
     states
@@ -98,18 +98,18 @@ fn groups(
                 break 'block;
             }
             let end = lesser(at + 4, n);
-            let mut wide = states[ch].widened();
+            let mut wide = states[ch].widen();
             // a group starts at frame 8 g + 1, and the samples of a channel stand c apart
             let mut k = c * (8 * g + 1) + ch;
             while at < end {
-                let first = wide.coded(&steps, samples[k]);
-                let second = first.next.coded(&steps, samples[k + c]);
+                let first = wide.encode_step(&steps, samples[k]);
+                let second = first.next.encode_step(&steps, samples[k + c]);
                 wide = second.next;
                 out_buf[at] = pack(first.nibble, second.nibble);
                 k += 2 * c;
                 at += 1;
             }
-            states[ch] = AdpcmImaState::narrowed(wide);
+            states[ch] = AdpcmImaState::narrow(wide);
             ch += 1;
         }
         g += 1;

@@ -76,5 +76,5 @@ pub fn head(low: u8, high: u8, index: u8) -> AdpcmImaState
     ensures { λ r. ⌜ stateOf r ≡ headed low high index ⌝ }
 {
     let lowered = lesser(index as usize, 88);
-    AdpcmImaState::new().reloaded(from_halves(high, low), lowered as u8)
+    AdpcmImaState::new().reload(from_halves(high, low), lowered as u8)
 }

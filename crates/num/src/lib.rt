@@ -6,7 +6,7 @@ ghost use Rattle.num.specs.Clamp as Clamp;
 ghost use Rattle.num.specs.Halves.{bitsOf, fromHalves};
 
 // A negative number complemented, -1 - x, and any other as it is.
-pub fn complemented(x: i16) -> u32
+pub fn complement(x: i16) -> u32
     ensures { λ r. ⌜ r ≡ mag x ⌝ }
 {
     if x < 0 { (-1 - x) as u32 } else { x as u32 }
@@ -74,7 +74,7 @@ pub fn from_halves(high: u8, low: u8) -> i16
 pub fn bits_of(x: i16) -> u32
     ensures { λ r. ⌜ (r ≡ bitsOf x) × (r < 65536) ⌝ }
 {
-    let size = complemented(x);
+    let size = complement(x);
     if x < 0 { 65535 - size } else { size }
 }
 

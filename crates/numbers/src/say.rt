@@ -11,7 +11,7 @@ pub(crate) fn number(front: &[u8], n: u64) {
 }
 
 pub(crate) fn signed(front: &[u8], x: i16) {
-    let size = num::complemented(x) as u64;
+    let size = num::complement(x) as u64;
     text(front);
     if x < 0 {
         number(b"-", size + 1);

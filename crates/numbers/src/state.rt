@@ -5,7 +5,7 @@ use crate::say::text;
 use adpcm_ima::AdpcmImaState;
 
 pub(crate) fn of(predictor: i16, index: u8) -> AdpcmImaState {
-    AdpcmImaState::new().reloaded(predictor, index)
+    AdpcmImaState::new().reload(predictor, index)
 }
 
 pub(crate) fn print(front: &[u8], state: AdpcmImaState) {

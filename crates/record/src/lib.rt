@@ -39,7 +39,7 @@ fn well_formed(input: &[u8]) -> bool
     if input.len() < 4 {
         return false;
     }
-    let rest = joined(input[0], input[1]);
+    let rest = join(input[0], input[1]);
     if 4098 < rest {
         return false;
     }
@@ -51,7 +51,7 @@ fn well_formed(input: &[u8]) -> bool
 }
 
 // The number that two bytes are, the high one first.
-fn joined(high: u8, low: u8) -> usize
+fn join(high: u8, low: u8) -> usize
     ensures { λ r. ⌜ r ≡ 256 * high + low ⌝ }
 {
     256 * (high as usize) + (low as usize)

@@ -76,16 +76,16 @@ fn channel(c: usize, ch: usize, block: &[u8], out: &mut [u8])
 {
     let steps = IMA_STEP_TABLE;
     let share = block.len() / c;
-    let mut reads = header(c, ch, block, out).widened();
+    let mut reads = header(c, ch, block, out).widen();
     let mut writes = reads;
     let mut d = 4;
     while d < share {
         let at = 4 * (c * (d / 4) + ch) + d % 4;
         let byte = block[at];
-        let between = reads.moved(&steps, low_nibble(byte));
-        reads = between.moved(&steps, high_nibble(byte));
-        let first = writes.coded(&steps, between.predictor);
-        let second = first.next.coded(&steps, reads.predictor);
+        let between = reads.decode_step(&steps, low_nibble(byte));
+        reads = between.decode_step(&steps, high_nibble(byte));
+        let first = writes.encode_step(&steps, between.predictor);
+        let second = first.next.encode_step(&steps, reads.predictor);
         writes = second.next;
         out[at] = pack(first.nibble, second.nibble);
         d += 1;

@@ -23,7 +23,7 @@ pub extern "C" fn sweep_encode(predictor: i16, step_index: u8, answers: &mut [u3
         predictor,
         step_index,
     };
-    let wide = state.widened();
+    let wide = state.widen();
     let mut k = 0;
     while k < answers.len() {
         answers[k] = answer_of(&steps, wide, sample(k));
@@ -42,12 +42,12 @@ fn sample(k: usize) -> i16
 fn answer_of(steps: &[u16; 89], wide: Wide, x: i16) -> u32
     ensures { λ r. ⌜ r ≡ answerOf (now (steps .entry)) (wideOf wide) x ⌝ }
 {
-    let coded = wide.coded(steps, x);
-    let next = AdpcmImaState::narrowed(coded.next);
-    coded.nibble + 256 * (next.step_index as u32) + 65536 * biased(next.predictor)
+    let coded = wide.encode_step(steps, x);
+    let next = AdpcmImaState::narrow(coded.next);
+    coded.nibble + 256 * (next.step_index as u32) + 65536 * bias(next.predictor)
 }
 
-fn biased(x: i16) -> u32
+fn bias(x: i16) -> u32
     ensures { λ r. ⌜ (r ≡ natAbs (x +ℤ pos 32768)) × (r < 65536) ⌝ }
 {
     (x as i32 + 32768) as u32

@@ -40,10 +40,10 @@ loop-again c =
     let inv = at .loop .inv in
     let states = at .loop .states in
     let h = c .before .before .before .loop-test .taken in
-    let f : SFits w16 (getD (a .t1) e (pos 0)) = search (needs, c .before .reloaded-arg .given) in
-    let is = c .reloaded .ensures ∙ ap (λ (p : ℤ). state p (getD (a .t2) e 0)) (toZ-ofZ w16 _ f) in (
-      rw (map-set stateOf states e (c .reloaded .result)) (one-more (rule (a .t1) (a .t2)) most e (map stateOf states) (stateOf (c .reloaded .result)) (length-map states stateOf ∙ inv .1) h is (inv .0)),
-      length-set states e (c .reloaded .result) ∙ inv .1,
+    let f : SFits w16 (getD (a .t1) e (pos 0)) = search (needs, c .before .reload-arg .given) in
+    let is = c .reload .ensures ∙ ap (λ (p : ℤ). state p (getD (a .t2) e 0)) (toZ-ofZ w16 _ f) in (
+      rw (map-set stateOf states e (c .reload .result)) (one-more (rule (a .t1) (a .t2)) most e (map stateOf states) (stateOf (c .reload .result)) (length-map states stateOf ∙ inv .1) h is (inv .0)),
+      length-set states e (c .reload .result) ∙ inv .1,
       omega (arith, h),
     )
 

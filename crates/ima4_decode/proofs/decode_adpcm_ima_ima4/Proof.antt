@@ -46,11 +46,11 @@ lengths : (c : tie.Else1 Inv-loop μ-loop) → let a = c .before .before .before
 lengths c = let a = c .before .before .before .args in blocks-are 1 (length (a .buf .now)) (length (a .out-samples .now)) (taken c)
 
 -- the test of the lengths, from before the loop
-abbrev tested : tie.After-widened Inv-loop μ-loop → tie.Else1 Inv-loop μ-loop
+abbrev tested : tie.After-widen Inv-loop μ-loop → tie.Else1 Inv-loop μ-loop
 tested c = c .before .before .before .before
 
 loop-holds : tie.Need-loop-holds Inv-loop μ-loop
-loop-holds c = let (b, o) = lengths (tested c) in (refl, b, o, omega arith, c .widened .ensures .1)
+loop-holds c = let (b, o) = lengths (tested c) in (refl, b, o, omega arith, c .widen .ensures .1)
 
 second-place : tie.Need-slice-set-from-second Inv-loop μ-loop
 second-place c =
@@ -58,7 +58,7 @@ second-place c =
     let at-low = at-high .before .before .before in
     let test = at-low .before .before .before in
     let at = test .before in
-    let x = toZ w16 (ofZ w16 (at-high .before .before .moved .result .predictor)) in
+    let x = toZ w16 (ofZ w16 (at-high .before .before .decode-step .result .predictor)) in
     omega (arith, length-set (at .loop .out-samples) (2 * at .loop .k) x, at .loop .inv .2, test .loop-test .taken)
 
 loop-again : tie.Need-loop-again Inv-loop μ-loop
@@ -73,8 +73,8 @@ loop-again c =
     let w = wideOf (at .loop .wide) in
     let out = at .loop .out-samples in
     let bytes = tested (at .before) .before .before .before .args .buf .now in
-    let first = at-high .before .before .moved in
-    let second = c .before .before .moved2 in
+    let first = at-high .before .before .decode-step in
+    let second = c .before .before .decode-step2 in
     let f : SFits w16 (first .result .predictor) = search needs in
     let g : SFits w16 (second .result .predictor) = search needs in
     let low = first .ensures ∙ ap (stepped sixteen imaSteps w) (at-low .low-nibble .ensures) in
@@ -87,14 +87,14 @@ loop-again c =
     (rw (toZ-ofZ w16 _ f, toZ-ofZ w16 _ g) (turn ∙ inv .0), inv .1, size, omega (arith, h), moved-lt imaSteps (wideOf (first .result)) (wideOf (second .result)) _ (second .ensures))
 
 -- where the loop ends
-ends : (c : tie.After-loop Inv-loop μ-loop) → let at = c .before in done (at .loop .out-samples) (wideOf (at .loop .wide)) ≡ samplesFrom imaSteps 0 (wideOf (at .before .widened .result)) (tested (at .before) .before .before .before .args .buf .now)
+ends : (c : tie.After-loop Inv-loop μ-loop) → let at = c .before in done (at .loop .out-samples) (wideOf (at .loop .wide)) ≡ samplesFrom imaSteps 0 (wideOf (at .before .widen .result)) (tested (at .before) .before .before .before .args .buf .now)
 ends c =
     let at = c .before in
     let inv = at .loop .inv in
     let out = at .loop .out-samples in
     let w = wideOf (at .loop .wide) in
     let bytes = tested (at .before) .before .before .before .args .buf .now in
-    let whole = samplesFrom imaSteps 0 (wideOf (at .before .widened .result)) bytes in
+    let whole = samplesFrom imaSteps 0 (wideOf (at .before .widen .result)) bytes in
     let last : at .loop .k ≡ 32 = omega (arith, c .loop-test .left, inv .3) in
     sym (all out 64 w (omega (arith, inv .2)))
     ∙ ap (after (take 64 out)) (sym (no-samples imaSteps w bytes (inv .1)))
@@ -109,8 +109,8 @@ returns-2 c =
     let at = c .before .before in
     let s = tested (at .before) in
     let bytes = s .before .before .before .args .buf .now in
-    let from = at .before .widened .ensures .0 ∙ at .before .before .started .ensures in
-    let state = c .narrowed .ensures ∙ narrow-below (wideOf (at .loop .wide)) (at .loop .inv .4) in
+    let from = at .before .widen .ensures .0 ∙ at .before .before .start-state .ensures in
+    let state = c .narrow .ensures ∙ narrow-below (wideOf (at .loop .wide)) (at .loop .inv .4) in
     let block = ends (c .before) ∙ ap (λ (st : State). samplesFrom imaSteps 0 st bytes) from in
     rw (taken s) (ap (λ (st : State). outcome 0 st (at .loop .out-samples)) state ∙ ap finished block)
 

@@ -52,7 +52,7 @@ second-place c =
     let s = c .before in omega (arith, length-set (s .before .before .before .args .out-buf .now) 0 (c .header-of .result .high), lengths s .0)
 
 -- the test of the lengths, from before the loop
-abbrev tested : tie.After-widened Inv-loop μ-loop → tie.Else1 Inv-loop μ-loop
+abbrev tested : tie.After-widen Inv-loop μ-loop → tie.Else1 Inv-loop μ-loop
 tested c = c .before .before .before
 
 loop-holds : tie.Need-loop-holds Inv-loop μ-loop
@@ -62,7 +62,7 @@ loop-holds c =
     let out = s .before .before .before .args .out-buf .now in
     let header = c .before .before .header-of .result in
     let size = length-set (set out 0 (header .high)) 1 (header .low) ∙ length-set out 0 (header .high) ∙ o in
-    (refl, x, size, omega arith, c .widened .ensures .1)
+    (refl, x, size, omega arith, c .widen .ensures .1)
 
 loop-again : tie.Need-loop-again Inv-loop μ-loop
 unfolding imaSteps
@@ -76,14 +76,14 @@ loop-again c =
     let w = wideOf (at .loop .wide) in
     let out = at .loop .out-buf in
     let samples = tested (at .before) .before .before .before .args .samples .now in
-    let low = at-second .before .before .coded in
-    let high = c .before .before .coded2 in
+    let low = at-second .before .before .encode-step in
+    let high = c .before .before .encode-step2 in
     let h : k < 32 = test .loop-test .taken in
     let (low-is, low-below, between) = low .ensures in
     let (high-is, high-below, behind) = high .ensures in
     let e : c .pack .result ≡ 16 * high .result .nibble + low .result .nibble = c .pack .ensures ∙ omega (arith, low-below, high-below) in
-    let f : SFits w16 (getD samples (2 * k) (pos 0)) = search (needs, at-first .coded-arg .given) in
-    let g : SFits w16 (getD samples (2 * k + 1) (pos 0)) = search (needs, at-second .coded-arg2 .given) in
+    let f : SFits w16 (getD samples (2 * k) (pos 0)) = search (needs, at-first .encode-step-arg .given) in
+    let g : SFits w16 (getD samples (2 * k + 1) (pos 0)) = search (needs, at-second .encode-step-arg2 .given) in
     let v = wideOf (low .result .next) in
     let u = wideOf (high .result .next) in
     let turn = one-byte imaSteps w v u samples out k (low .result .nibble) (high .result .nibble) (low-is ∙ ap (emitted sixteen imaSteps w) (toZ-ofZ w16 _ f)) between (high-is ∙ ap (emitted sixteen imaSteps v) (toZ-ofZ w16 _ g)) behind (omega (arith, inv)) (omega (arith, inv)) in
@@ -92,7 +92,7 @@ loop-again c =
 -- where the loop ends
 ends : (c : tie.After-loop Inv-loop μ-loop) → let of = c .before .before in let s = tested of in
     done (c .before .loop .out-buf) (wideOf (c .before .loop .wide))
-    ≡ after (of .before .before .header-of .result .high ∷ of .before .before .header-of .result .low ∷ []) (bytesFrom imaSteps 0 (wideOf (of .widened .result)) (s .before .before .before .args .samples .now))
+    ≡ after (of .before .before .header-of .result .high ∷ of .before .before .header-of .result .low ∷ []) (bytesFrom imaSteps 0 (wideOf (of .widen .result)) (s .before .before .before .args .samples .now))
 ends c =
     let at = c .before in
     let inv = at .loop .inv in
@@ -101,7 +101,7 @@ ends c =
     let s = tested (at .before) in
     let a = s .before .before .before .args in
     let header = at .before .before .before .header-of .result in
-    let all-bytes = bytesFrom imaSteps 0 (wideOf (at .before .widened .result)) (a .samples .now) in
+    let all-bytes = bytesFrom imaSteps 0 (wideOf (at .before .widen .result)) (a .samples .now) in
     let whole = after (take 2 (set (set (a .out-buf .now) 0 (header .high)) 1 (header .low))) all-bytes in
     let last : at .loop .k ≡ 32 = omega (arith, c .loop-test .left, inv .3) in
     sym (all out 34 w (omega (arith, inv .2)))
@@ -115,8 +115,8 @@ returns-2 c =
     let at = c .before .before in
     let s = tested (at .before) in
     let samples = s .before .before .before .args .samples .now in
-    let from = at .before .widened .ensures .0 ∙ at .before .before .lowered-state .ensures in
-    let state = c .narrowed .ensures ∙ narrow-below (wideOf (at .loop .wide)) (at .loop .inv .4) in
+    let from = at .before .widen .ensures .0 ∙ at .before .before .lowered-state .ensures in
+    let state = c .narrow .ensures ∙ narrow-below (wideOf (at .loop .wide)) (at .loop .inv .4) in
     let block = ends (c .before) ∙ ap₂ (λ bs st. after bs (bytesFrom imaSteps 0 st samples)) (at .before .before .before .header-of .ensures) from in
     rw (taken s) (ap (λ st. outcome 0 st (at .loop .out-buf)) state ∙ ap finished block)
 

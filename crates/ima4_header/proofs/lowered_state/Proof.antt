@@ -12,7 +12,7 @@ returns : tie.Need-returns
 returns c =
     let s = c .before .before .before .before in
     let f : SFits w16 (s .args .state .predictor) = search needs in
-    c .reloaded .ensures ∙ ap₂ state (toZ-ofZ w16 _ f) (c .before .before .lesser .ensures)
+    c .reload .ensures ∙ ap₂ state (toZ-ofZ w16 _ f) (c .before .before .lesser .ensures)
 
 pub lowered-state-spec : {M : Type 1} → statement M
 lowered-state-spec = tie.close (tie.spec (λ c. search needs) (λ c κs. search needs) (λ c. search needs) (λ c κs. search needs) returns)

@@ -34,7 +34,7 @@ returns-2 c =
     let s = c .before .before .before in
     let a = s .before .before .args in
     let all = c .before .before .look in
-    reports (a .before .now) (a .after .now) (same s) (few s) (all .result .alike) (all .ensures .0) (c .before .first-from .ensures) (all .ensures .1) (c .capped .ensures)
+    reports (a .before .now) (a .after .now) (same s) (few s) (all .result .alike) (all .ensures .0) (c .before .first-from .ensures) (all .ensures .1) (c .cap .ensures)
 
 pub loss-report-spec : {M : Type 1} → statement M
 loss-report-spec =

@@ -111,11 +111,11 @@ places c =
     (k-is, omega (arith, k-is, room (inv .1) h, inv .2), omega (arith, inv .2, inv .1 .block .short))
 
 -- a byte's first step, from behind its second
-abbrev halfway : tie.After-struct-told2 Inv-loop2 μ-loop2 Inv-loop μ-loop Inv-block μ-block → tie.After-moved Inv-loop2 μ-loop2 Inv-loop μ-loop Inv-block μ-block
+abbrev halfway : tie.After-struct-told2 Inv-loop2 μ-loop2 Inv-loop μ-loop Inv-block μ-block → tie.After-decode-step Inv-loop2 μ-loop2 Inv-loop μ-loop Inv-block μ-block
 halfway c = c .before .before .before .before .before
 
 -- the test of the loop, from behind a byte's first step
-abbrev tested : tie.After-moved Inv-loop2 μ-loop2 Inv-loop μ-loop Inv-block μ-block → tie.In-loop2 Inv-loop2 μ-loop2 Inv-loop μ-loop Inv-block μ-block
+abbrev tested : tie.After-decode-step Inv-loop2 μ-loop2 Inv-loop μ-loop Inv-block μ-block → tie.In-loop2 Inv-loop2 μ-loop2 Inv-loop μ-loop Inv-block μ-block
 tested c = c .before .before .before .before
 
 mul-first : tie.Need-mul-first Inv-loop2 μ-loop2 Inv-loop μ-loop Inv-block μ-block
@@ -135,7 +135,7 @@ slice-set-from-second c =
     let at-first = halfway c in
     let test = tested at-first in
     let loop2 = test .before .loop2 in
-    omega (arith, places test, length-set (loop2 .out-samples) (loop2 .k) (toZ w16 (ofZ w16 (at-first .moved .result .predictor))))
+    omega (arith, places test, length-set (loop2 .out-samples) (loop2 .k) (toZ w16 (ofZ w16 (at-first .decode-step .result .predictor))))
 
 add-k-3 : tie.Need-add-k-3 Inv-loop2 μ-loop2 Inv-loop μ-loop Inv-block μ-block
 add-k-3 c = omega (arith, places (tested (halfway c)))
@@ -148,8 +148,8 @@ unfolding imaSteps
 loop2-again c =
     let at-second = c .before .before in
     let at-first = halfway c in
-    let one = at-first .moved .result in
-    let two = at-second .moved2 .result in
+    let one = at-first .decode-step .result in
+    let two = at-second .decode-step2 .result in
     let f : SFits w16 (one .predictor) = search needs in
     let s : SFits w16 (two .predictor) = search needs in
     let test = tested at-first in
@@ -166,8 +166,8 @@ loop2-again c =
     let wide = wideOf (at .loop2 .wide) in
     let x = toZ w16 (ofZ w16 (one .predictor)) in
     let y = toZ w16 (ofZ w16 (two .predictor)) in
-    let low = at-first .moved .ensures ∙ ap (stepped sixteen imaSteps wide) (at-first .before .low-nibble .ensures) in
-    let high = at-second .moved2 .ensures ∙ ap (stepped sixteen imaSteps (wideOf one)) (at-second .before .high-nibble .ensures) in
+    let low = at-first .decode-step .ensures ∙ ap (stepped sixteen imaSteps wide) (at-first .before .low-nibble .ensures) in
+    let high = at-second .decode-step2 .ensures ∙ ap (stepped sixteen imaSteps (wideOf one)) (at-second .before .high-nibble .ensures) in
     let some : ch < length wides = omega (arith, inv .1 .channel, inv .1 .block .few, length-map (loop .loop .wides) wideOf, inv .3) in (
       byte-turn (a .c) (omega (arith, inv .1 .channel)) (a .buf .now) (inv .1) h k out wides wide (wideOf one) (wideOf two) x y
           (places test .0) (inv .2) some low high (toZ-ofZ w16 _ f) (toZ-ofZ w16 _ s) (inv .0),

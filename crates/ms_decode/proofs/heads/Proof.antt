@@ -44,11 +44,11 @@ loop-again c =
     let h = c .before .before .before .before .before .before .loop-test .taken in
     let out = at .loop .out-samples in
     let wides = at .loop .wides in
-    let wide = c .before .widened2 .result in
+    let wide = c .before .widen2 .result in
     let x = toZ w16 (ofZ w16 (wide .predictor)) in
     let f : SFits w16 (wide .predictor) = search needs in
     let long = length-set out ch x in
-    let st-is = c .before .widened2 .ensures .0 ∙ c .before .before .head2 .ensures ∙ sym (head-is (a .buf .now) (inv .1) ch h) in
+    let st-is = c .before .widen2 .ensures .0 ∙ c .before .before .head2 .ensures ∙ sym (head-is (a .buf .now) (inv .1) ch h) in
     let turn = heads-turn (a .c) (a .buf .now) ch out (map wideOf wides) (wideOf wide) x (omega (arith, h, samples-all (inv .1))) (omega (arith, h, inv .1 .few, inv .3, length-map wides wideOf)) st-is (toZ-ofZ w16 _ f) (inv .0) in
     (rw (map-set wideOf wides ch wide) turn, subst (Shape (a .c) (length (a .buf .now))) (sym long) (inv .1), long ∙ inv .2, length-set wides ch wide ∙ inv .3, omega (arith, h))
 

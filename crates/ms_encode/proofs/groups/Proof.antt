@@ -82,7 +82,7 @@ loop-holds : tie.Need-loop-holds Inv-loop2 μ-loop2 Inv-loop μ-loop Inv-block �
 loop-holds c = let inv = c .block .inv in ((λ starts u. u), channels-first (c .block .g) (c .block .at) (inv .1), inv .2, inv .3, inv .4)
 
 -- the loop over the channels, from before that over the bytes
-abbrev outer : tie.After-widened Inv-loop2 μ-loop2 Inv-loop μ-loop Inv-block μ-block → tie.At-loop Inv-loop2 μ-loop2 Inv-loop μ-loop Inv-block μ-block
+abbrev outer : tie.After-widen Inv-loop2 μ-loop2 Inv-loop μ-loop Inv-block μ-block → tie.At-loop Inv-loop2 μ-loop2 Inv-loop μ-loop Inv-block μ-block
 outer c = c .before .before .before .before .before
 
 -- the start, from the loop over the channels
@@ -102,7 +102,7 @@ loop2-holds c =
       inv .3,
       inv .4,
       frames-first (begin loop .args .c) g ch (loop .loop .at),
-      c .widened .ensures .1,
+      c .widen .ensures .1,
     )
 
 -- where the two samples of a byte stand
@@ -119,27 +119,27 @@ places c =
     (k-is, omega (arith, k-is, room (inv .1) h, inv .2), omega (arith, inv .2, inv .1 .block .short))
 
 -- a byte's first step, from behind its second
-abbrev halfway : tie.After-pack Inv-loop2 μ-loop2 Inv-loop μ-loop Inv-block μ-block → tie.After-coded Inv-loop2 μ-loop2 Inv-loop μ-loop Inv-block μ-block
+abbrev halfway : tie.After-pack Inv-loop2 μ-loop2 Inv-loop μ-loop Inv-block μ-block → tie.After-encode-step Inv-loop2 μ-loop2 Inv-loop μ-loop Inv-block μ-block
 halfway c = c .before .before .before .before .before
 
 -- the test of the loop, from behind a byte's first step
-abbrev tested : tie.After-coded Inv-loop2 μ-loop2 Inv-loop μ-loop Inv-block μ-block → tie.In-loop2 Inv-loop2 μ-loop2 Inv-loop μ-loop Inv-block μ-block
+abbrev tested : tie.After-encode-step Inv-loop2 μ-loop2 Inv-loop μ-loop Inv-block μ-block → tie.In-loop2 Inv-loop2 μ-loop2 Inv-loop μ-loop Inv-block μ-block
 tested c = c .before .before .before
 
-mul-coded : tie.Need-mul-coded Inv-loop2 μ-loop2 Inv-loop μ-loop Inv-block μ-block
-mul-coded c = omega (arith, places (c .before))
+mul-encode-step : tie.Need-mul-encode-step Inv-loop2 μ-loop2 Inv-loop μ-loop Inv-block μ-block
+mul-encode-step c = omega (arith, places (c .before))
 
-shared-slice-copy-out-coded : tie.Need-shared-slice-copy-out-coded Inv-loop2 μ-loop2 Inv-loop μ-loop Inv-block μ-block
-shared-slice-copy-out-coded c = omega (arith, places (c .before))
+shared-slice-copy-out-encode-step : tie.Need-shared-slice-copy-out-encode-step Inv-loop2 μ-loop2 Inv-loop μ-loop Inv-block μ-block
+shared-slice-copy-out-encode-step c = omega (arith, places (c .before))
 
-add-coded : tie.Need-add-coded Inv-loop2 μ-loop2 Inv-loop μ-loop Inv-block μ-block
-add-coded c = omega (arith, places (tested (c .before)))
+add-encode-step : tie.Need-add-encode-step Inv-loop2 μ-loop2 Inv-loop μ-loop Inv-block μ-block
+add-encode-step c = omega (arith, places (tested (c .before)))
 
-mul-coded-2 : tie.Need-mul-coded-2 Inv-loop2 μ-loop2 Inv-loop μ-loop Inv-block μ-block
-mul-coded-2 c = omega (arith, places (tested (c .before)))
+mul-encode-step-2 : tie.Need-mul-encode-step-2 Inv-loop2 μ-loop2 Inv-loop μ-loop Inv-block μ-block
+mul-encode-step-2 c = omega (arith, places (tested (c .before)))
 
-shared-slice-copy-out-coded-2 : tie.Need-shared-slice-copy-out-coded-2 Inv-loop2 μ-loop2 Inv-loop μ-loop Inv-block μ-block
-shared-slice-copy-out-coded-2 c = omega (arith, places (tested (c .before)))
+shared-slice-copy-out-encode-step-2 : tie.Need-shared-slice-copy-out-encode-step-2 Inv-loop2 μ-loop2 Inv-loop μ-loop Inv-block μ-block
+shared-slice-copy-out-encode-step-2 c = omega (arith, places (tested (c .before)))
 
 add-k-3 : tie.Need-add-k-3 Inv-loop2 μ-loop2 Inv-loop μ-loop Inv-block μ-block
 add-k-3 c = omega (arith, places (tested (halfway c)))
@@ -165,11 +165,11 @@ loop2-again c =
     let samples = a .samples .now in
     let states = loop .loop .states in
     let w = wideOf (at .loop2 .wide) in
-    let one = at-first .coded in
-    let two = at-second .coded2 in
+    let one = at-first .encode-step in
+    let two = at-second .encode-step2 in
     let mid = wideOf (one .result .next) in
-    let f : SFits w16 (getD samples k (pos 0)) = search (needs, at-first .before .coded-arg .given) in
-    let s : SFits w16 (getD samples (k + a .c) (pos 0)) = search (needs, at-second .before .coded-arg2 .given) in
+    let f : SFits w16 (getD samples k (pos 0)) = search (needs, at-first .before .encode-step-arg .given) in
+    let s : SFits w16 (getD samples (k + a .c) (pos 0)) = search (needs, at-second .before .encode-step-arg2 .given) in
     let x = toZ w16 (ofZ w16 (getD samples k (pos 0))) in
     let y = toZ w16 (ofZ w16 (getD samples (k + a .c) (pos 0))) in
     let one-is = one .ensures .2 ∙ ap (stepped sixteen imaSteps w) (one .ensures .0) in
@@ -198,16 +198,16 @@ loop-again c =
     let inv = at .loop2 .inv in
     let states = loop .loop .states in
     let ch = loop .loop .ch in
-    let st = c .narrowed .ensures ∙ narrow-below (wideOf (at .loop2 .wide)) (inv .6) in
+    let st = c .narrow .ensures ∙ narrow-below (wideOf (at .loop2 .wide)) (inv .6) in
     let d : AdpcmImaState = record { predictor = pos 0; «step_index» = 0 } in
-    let kept = map-kept stateOf states ch d ∙ ap (set (map stateOf states) ch) (sym (at .before .widened .ensures .0)) in
-    let back = ap (set (map stateOf states) ch) (sym st) ∙ sym (map-set stateOf states ch (c .narrowed .result)) in (
+    let kept = map-kept stateOf states ch d ∙ ap (set (map stateOf states) ch) (sym (at .before .widen .ensures .0)) in
+    let back = ap (set (map stateOf states) ch) (sym st) ∙ sym (map-set stateOf states ch (c .narrow .result)) in (
       (λ starts u. subst (Upto (a .c) (a .samples .now) starts (at .loop2 .at) (at .loop2 .out-buf)) back
           (inv .0 starts (subst (Upto (a .c) (a .samples .now) starts (loop .loop .at) (loop .loop .out-buf)) kept (loop .loop .inv .0 starts u)))),
       channels-next (loop .before .block .g) ch (loop .loop .at) (at .before .before .before .lesser .result) (at .loop2 .at) (inv .1) (c .before .loop2-test .left),
       inv .2,
       inv .3,
-      length-set states ch (c .narrowed .result) ∙ inv .4,
+      length-set states ch (c .narrow .result) ∙ inv .4,
     )
 
 block-less : tie.Need-block-less Inv-loop2 μ-loop2 Inv-loop μ-loop Inv-block μ-block
@@ -260,12 +260,12 @@ groups-spec =
     (λ c. search needs)
     (λ c. search needs)
     loop2-holds
-    mul-coded
-    shared-slice-copy-out-coded
+    mul-encode-step
+    shared-slice-copy-out-encode-step
     (λ c κs. search needs)
-    add-coded
-    mul-coded-2
-    shared-slice-copy-out-coded-2
+    add-encode-step
+    mul-encode-step-2
+    shared-slice-copy-out-encode-step-2
     (λ c κs. search needs)
     (λ c κs. search needs)
     (λ c. search needs)

@@ -73,15 +73,15 @@ loop-again c =
     let some : ch < length (map stateOf states) = omega (arith, h, inv .1 .few, length-map states stateOf, inv .3) in
     let long = four-length out (4 * ch) (low .result) (high .result) (st .«step_index») 0 in
     let turn =
-    begun-turn samples (map stateOf (a .given)) is ch out (map stateOf states) (bits .result) (st .«step_index») (stateOf (c .reloaded .result)) h (inv .2) some
+    begun-turn samples (map stateOf (a .given)) is ch out (map stateOf states) (bits .result) (st .«step_index») (stateOf (c .reload .result)) h (inv .2) some
     (bits .ensures .0 ∙ ap bitsOf (toZ-ofZ w16 _ f))
     (ap (λ (s : State). s .index) (sym (List·getD-map stateOf states ch d)))
-    (c .reloaded .ensures ∙ ap (λ (z : ℤ). state z (st .«step_index»)) (toZ-ofZ w16 _ f))
+    (c .reload .ensures ∙ ap (λ (z : ℤ). state z (st .«step_index»)) (toZ-ofZ w16 _ f))
     (inv .0) in (
-      rw (map-set stateOf states ch (c .reloaded .result), low .ensures, high-is) turn,
+      rw (map-set stateOf states ch (c .reload .result), low .ensures, high-is) turn,
       subst (λ (k : ℕ). Shape (a .c) k (length samples)) (sym long) (inv .1),
       long ∙ inv .2,
-      length-set states ch (c .reloaded .result) ∙ inv .3,
+      length-set states ch (c .reload .result) ∙ inv .3,
       omega (arith, h),
     )
 

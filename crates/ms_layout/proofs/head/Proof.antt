@@ -12,7 +12,7 @@ returns : tie.Need-returns
 returns c =
     let halves = c .before .from-halves in
     let f : SFits w16 (halves .result) = search needs in
-    c .reloaded .ensures ∙ ap₂ state (toZ-ofZ w16 _ f ∙ halves .ensures) (c .before .before .before .lesser .ensures)
+    c .reload .ensures ∙ ap₂ state (toZ-ofZ w16 _ f ∙ halves .ensures) (c .before .before .before .lesser .ensures)
 
 pub head-spec : {M : Type 1} → statement M
 head-spec =

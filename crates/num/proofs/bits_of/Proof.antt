@@ -20,10 +20,10 @@ other : (x : ℤ) → ltZ x (pos 0) ≡ false → mag x ≡ bitsOf x
 other x t = rw (positive x t) refl
 
 -- what `complemented` gave, of a number that 16 bits hold
-size : (c : tie.After-complemented) → (c .complemented .result ≡ mag (c .before .args .x)) × (c .complemented .result < 32768)
+size : (c : tie.After-complement) → (c .complement .result ≡ mag (c .before .args .x)) × (c .complement .result < 32768)
 size c =
     let f = c .before .fits .x in
-    let e = c .complemented .ensures ∙ ap mag (toZ-ofZ w16 _ f) in
+    let e = c .complement .ensures ∙ ap mag (toZ-ofZ w16 _ f) in
     (e, omega (arith, f .sfits))
 
 sub-result : tie.Need-sub-result

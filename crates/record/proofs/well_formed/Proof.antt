@@ -10,7 +10,7 @@ returns : tie.Need-returns
 returns c = sym (malformed (c .before .before .args .input .now) (λ f. omega arith))
 
 -- the arguments, from behind the length that the record says
-abbrev start : tie.After-joined → tie.Start
+abbrev start : tie.After-join → tie.Start
 start c = c .before .before .before .before .before
 
 returns-2 : tie.Need-returns-2

@@ -40,7 +40,7 @@ loop-holds c =
     let header = c .before .before .before in
     let s = header .before .before .before .before in
     let made = header .header .ensures in (
-      start (s .args .block .now) (is s) (s .args .ch) (s .pre .1) (header .header .last .1 .1 .1 .0) (wideOf (c .widened .result)) (c .widened .ensures .0 ∙ made .0) (made .1),
+      start (s .args .block .now) (is s) (s .args .ch) (s .pre .1) (header .header .last .1 .1 .1 .0) (wideOf (c .widen .result)) (c .widen .ensures .0 ∙ made .0) (made .1),
       c .before .before .out .given ∙ s .pre .0 .1,
       omega arith,
       four-bytes (is s),
@@ -92,12 +92,12 @@ loop-again c =
     let at-first = at-second .before .before .before in
     let at-high = at-first .before .before .before in
     let at-low = at-high .before .before .before in
-    let between = at-low .moved .result in
-    let after = at-high .moved2 .result in
+    let between = at-low .decode-step .result in
+    let after = at-high .decode-step2 .result in
     let f : SFits w16 (between .predictor) = search needs in
     let g : SFits w16 (after .predictor) = search needs in
-    let first = at-first .coded in
-    let second = at-second .coded2 in
+    let first = at-first .encode-step in
+    let second = at-second .encode-step2 in
     let test = tested c in
     let loop = test .before .loop in
     let s = begin (test .before) in
@@ -105,8 +105,8 @@ loop-again c =
     let p = place 4 (a .c) (a .ch) (loop .d) in
     let read = wideOf (loop .reads) in
     let write = wideOf (loop .writes) in
-    let low-is = at-low .moved .ensures ∙ ap (stepped sixteen imaSteps read) (at-low .before .low-nibble .ensures) in
-    let high-is = at-high .moved2 .ensures ∙ ap (stepped sixteen imaSteps (wideOf between)) (at-high .before .high-nibble .ensures) in
+    let low-is = at-low .decode-step .ensures ∙ ap (stepped sixteen imaSteps read) (at-low .before .low-nibble .ensures) in
+    let high-is = at-high .decode-step2 .ensures ∙ ap (stepped sixteen imaSteps (wideOf between)) (at-high .before .high-nibble .ensures) in
     let first-is = first .ensures .0 ∙ ap (emitted sixteen imaSteps write) (toZ-ofZ w16 _ f) in
     let second-is = second .ensures .0 ∙ ap (emitted sixteen imaSteps (wideOf (first .result .next))) (toZ-ofZ w16 _ g) in
     let packed : c .pack .result ≡ 16 * second .result .nibble + first .result .nibble = c .pack .ensures ∙ omega (arith, first .ensures .1, second .ensures .1) in

@@ -14,16 +14,16 @@ use Rattle.sweep.specs.Answers.{answerNumber, answerOf}
 use Rattle.sweep.proofs.answer_of.Statement.{statement}
 use Rattle.sweep.proofs.answer_of.Tie as tie
 
-emits : (c : tie.After-coded) → c .coded .result .nibble ≡ emitted sixteen (c .before .args .steps .now) (wideOf (c .before .args .wide)) (c .before .args .x)
-emits c = c .coded .ensures .0 ∙ ap (emitted sixteen (c .before .args .steps .now) (wideOf (c .before .args .wide))) (toZ-ofZ w16 _ (c .before .fits .x))
+emits : (c : tie.After-encode-step) → c .encode-step .result .nibble ≡ emitted sixteen (c .before .args .steps .now) (wideOf (c .before .args .wide)) (c .before .args .x)
+emits c = c .encode-step .ensures .0 ∙ ap (emitted sixteen (c .before .args .steps .now) (wideOf (c .before .args .wide))) (toZ-ofZ w16 _ (c .before .fits .x))
 
 add-result : tie.Need-add-result
-add-result c = record { fits = omega (arith, c .before .before .before .coded .ensures .1, c .struct-known2 .given) }
+add-result c = record { fits = omega (arith, c .before .before .before .encode-step .ensures .1, c .struct-known2 .given) }
 
 add-result-2 : tie.Need-add-result-2
 add-result-2 c =
     let known = c .before .before in
-    record { fits = omega (arith, known .before .before .before .coded .ensures .1, c .biased .ensures .1, known .struct-known2 .given) }
+    record { fits = omega (arith, known .before .before .before .encode-step .ensures .1, c .bias .ensures .1, known .struct-known2 .given) }
 
 returns : tie.Need-returns
 unfolding answerOf
@@ -31,11 +31,11 @@ returns c =
     let narrowed = c .before .before .before .before in
     let before = narrowed .before in
     let a = before .before .args in
-    let n = before .coded .result .nibble in
-    let r = narrowed .narrowed .result in
+    let n = before .encode-step .result .nibble in
+    let r = narrowed .narrow .result in
     let f : SFits w16 (r .predictor) = search needs in
-    let high = c .biased .ensures .0 ∙ ap (λ (z : ℤ). natAbs (z +ℤ pos 32768)) (toZ-ofZ w16 _ f) in
-    let next = narrowed .narrowed .ensures ∙ ap narrow (before .coded .ensures .2) ∙ narrow-is (a .steps .now) (wideOf (a .wide)) n in
+    let high = c .bias .ensures .0 ∙ ap (λ (z : ℤ). natAbs (z +ℤ pos 32768)) (toZ-ofZ w16 _ f) in
+    let next = narrowed .narrow .ensures ∙ ap narrow (before .encode-step .ensures .2) ∙ narrow-is (a .steps .now) (wideOf (a .wide)) n in
     ap (λ (b : ℕ). n + 256 * r .«step_index» + 65536 * b) high
     ∙ ap (answerNumber n) next
     ∙ ap (λ (v : ℕ). answerNumber v (stepped sixteen (a .steps .now) (wideOf (a .wide)) v)) (emits before)

@@ -33,7 +33,7 @@ returns : tie.Need-returns Inv-loop μ-loop
 returns c = simp (ne-eqb _ _ (c .if1 .taken)) refl
 
 loop-holds : tie.Need-loop-holds Inv-loop μ-loop
-loop-holds c = (none (rule (wideOf (c .widened .result))) 65536 (c .before .before .before .args .answers .now), c .before .if1 .left, omega arith)
+loop-holds c = (none (rule (wideOf (c .widen .result))) 65536 (c .before .before .before .args .answers .now), c .before .if1 .left, omega arith)
 
 loop-less : tie.Need-loop-less Inv-loop μ-loop
 loop-less c = omega arith
@@ -42,7 +42,7 @@ loop-again : tie.Need-loop-again Inv-loop μ-loop
 unfolding imaSteps
 loop-again c =
     let at = c .before .before .before .before in
-    let w = wideOf (at .before .widened .result) in
+    let w = wideOf (at .before .widen .result) in
     let k = at .loop .k in
     let inv = at .loop .inv in
     let g : SFits w16 (c .before .sample .result) = search needs in
@@ -55,9 +55,9 @@ returns-2 c =
     let s = at .before .before .before .before in
     let inv = at .loop .inv in
     let end : at .loop .k ≡ 65536 = omega arith in
-    let w = wideOf (at .before .widened .result) in
+    let w = wideOf (at .before .widen .result) in
     let done = all (rule w) 65536 (at .loop .answers) (inv .1) (subst (Upto (rule w) 65536 (at .loop .answers)) end (inv .0)) in
-    let from-state = at .before .widened .ensures .0 ∙ ap (λ (p : ℤ). state p (s .args .step-index)) (toZ-ofZ w16 _ (s .fits .predictor)) in
+    let from-state = at .before .widen .ensures .0 ∙ ap (λ (p : ℤ). state p (s .args .step-index)) (toZ-ofZ w16 _ (s .fits .predictor)) in
     simp (eq-eqb _ _ (at .before .before .if1 .left)) (ap (outcome 0 tt) (done ∙ ap answersOf from-state))
 
 pub sweep-encode-spec : {M : Type 1} → statement M

@@ -16,10 +16,10 @@ returns c =
     let at-moved = c .before .before in
     let at-wide = at-moved .before .before in
     let nibble = at-wide .before .args .nibble in
-    let f : SFits w16 (at-moved .moved .result .predictor) = search needs in
-    let next = at-moved .moved .ensures ∙ ap (λ (st : State). stepped sixteen imaSteps st nibble) (at-wide .widened .ensures .0) in
-    let state = c .narrowed .ensures ∙ ap narrow next ∙ narrow-is imaSteps _ nibble in
-    (state, toZ-ofZ w16 _ f ∙ sym (ap (λ (st : State). st .predictor) (c .narrowed .ensures)))
+    let f : SFits w16 (at-moved .decode-step .result .predictor) = search needs in
+    let next = at-moved .decode-step .ensures ∙ ap (λ (st : State). stepped sixteen imaSteps st nibble) (at-wide .widen .ensures .0) in
+    let state = c .narrow .ensures ∙ ap narrow next ∙ narrow-is imaSteps _ nibble in
+    (state, toZ-ofZ w16 _ f ∙ sym (ap (λ (st : State). st .predictor) (c .narrow .ensures)))
 
 pub decode-spec : {M : Type 1} → statement M
 decode-spec = tie.close (tie.spec (λ c κs. search needs) (λ c κs. search needs) (λ c κs. search needs) returns)

@@ -16,12 +16,12 @@ returns c =
     let called = c .before .before in
     let widened = called .before .before in
     let s = widened .before in
-    let coded = called .coded in
+    let coded = called .encode-step in
     let v = coded .result .nibble in
-    let from = widened .widened .ensures .0 in
+    let from = widened .widen .ensures .0 in
     let nibble = coded .ensures .0 ∙ ap₂ (emitted sixteen imaSteps) from (toZ-ofZ w16 _ (s .fits .sample)) in
     let next = coded .ensures .2 ∙ ap (λ (st : State). stepped sixteen imaSteps st v) from in
-    (nibble, c .narrowed .ensures ∙ ap narrow next ∙ narrow-is imaSteps (stateOf (s .args .self)) v)
+    (nibble, c .narrow .ensures ∙ ap narrow next ∙ narrow-is imaSteps (stateOf (s .args .self)) v)
 
 pub encode-spec : {M : Type 1} → statement M
 encode-spec = tie.close (tie.spec (λ c κs. search needs) (λ c κs. search needs) (λ c. search needs) (λ c κs. search needs) returns)

@@ -19,8 +19,8 @@ kept-lt : (x : ℤ) → SFits w16 x → kept A-law x < 4096
 kept-lt (pos n) f = omega arith
 kept-lt (negsuc n) f = omega arith
 
-kept-is : (c : tie.After-complemented) → c .complemented .result ≡ kept A-law (c .before .args .linear)
-kept-is c = c .complemented .ensures ∙ shift-is _ (c .before .fits .linear) 3
+kept-is : (c : tie.After-complement) → c .complement .result ≡ kept A-law (c .before .args .linear)
+kept-is c = c .complement .ensures ∙ shift-is _ (c .before .fits .linear) 3
 
 segment-is : (c : tie.After-larger) → c .larger .result - 5 ≡ segment A-law (c .before .before .args .linear)
 unfolding segment
@@ -34,8 +34,8 @@ segment-lt : (x : ℤ) → SFits w16 x → segment A-law x < 8
 unfolding segment
 segment-lt x f = let l = length-le 12 (kept A-law x) (kept-lt x f) in omega arith
 
-complemented-requires : tie.Need-complemented-requires
-complemented-requires c κs = search needs
+complement-requires : tie.Need-complement-requires
+complement-requires c κs = search needs
 
 sub-bits : tie.Need-sub-bits
 sub-bits c = leading-le 32 _
@@ -69,7 +69,7 @@ pub encode-alaw-spec : {M : Type 1} → statement M
 encode-alaw-spec =
     tie.close
     (tie.spec
-    complemented-requires
+    complement-requires
     sub-bits
     larger-requires
     sub-segment

@@ -36,11 +36,11 @@ unfolding codeOf segment fourBits
 coded x n e h =
     rw (length-is n (omega arith) h, e, le-ltb 8191 (kept mu-law x) (rw e at h))
 
-sum-is : (c : tie.After-complemented) → c .complemented .result + 33 ≡ kept mu-law (c .before .args .linear)
-sum-is c = ap (λ (n : ℕ). n + 33) (c .complemented .ensures ∙ shift-is _ (c .before .fits .linear) 2)
+sum-is : (c : tie.After-complement) → c .complement .result + 33 ≡ kept mu-law (c .before .args .linear)
+sum-is c = ap (λ (n : ℕ). n + 33) (c .complement .ensures ∙ shift-is _ (c .before .fits .linear) 2)
 
-complemented-requires : tie.Need-complemented-requires
-complemented-requires c κs = search needs
+complement-requires : tie.Need-complement-requires
+complement-requires c κs = search needs
 
 add-inputval : tie.Need-add-inputval
 add-inputval c =
@@ -83,7 +83,7 @@ pub encode-ulaw-spec : {M : Type 1} → statement M
 encode-ulaw-spec =
     tie.close
     (tie.spec
-    complemented-requires
+    complement-requires
     add-inputval
     code-word-requires
     returns

@@ -1,4 +1,4 @@
--- `ima_step::Wide::coded` meets its contract: every part is the definition's of the same step and difference. Assumes nothing.
+-- `ima_step::Wide::encode_step` meets its contract: every part is the definition's of the same step and difference. Assumes nothing.
 use mathlib.Core.Path.{_≡_, sym, ap, ap₂, _∙_}
 use mathlib.Core.Bool.{Bool, cond}
 use Prim.Native.Nat.{ℕ, _+_, _-_, _*_, _/_, min}
@@ -15,8 +15,8 @@ use Rattle.ima_nibble.specs.Step.{state, sixteen, stepped, stepAt, nibbleOf, si
 use Rattle.ima_step.specs.View.{wideOf}
 use Rattle.ima_nibble.proofs.Counted.{reachedOf, counted}
 use Rattle.ima_nibble.proofs.Fused.{sign-is, predicts, raises}
-use Rattle.ima_step.proofs.Wide.coded.Statement.{statement}
-use Rattle.ima_step.proofs.Wide.coded.Tie as tie
+use Rattle.ima_step.proofs.Wide.encode_step.Statement.{statement}
+use Rattle.ima_step.proofs.Wide.encode_step.Tie as tie
 
 -- where `towards` and `raised` go
 abbrev aim : ℤ → Bool → ℕ → ℤ
@@ -53,15 +53,15 @@ returns c =
     let z = toZ w32 (ofZ w32 (apart .difference .result)) in
     let x-is : z ≡ x = toZ-ofZ w32 _ k ∙ apart .difference .ensures .0 ∙ ap₂ _-ℤ_ (toZ-ofZ w16 _ g) (toZ-ofZ w16 _ f) in
     let r-is : size .absolute .result ≡ r = size .absolute .ensures ∙ ap natAbs x-is in
-    let above : upper .reached .result ≡ reachedOf s s r = upper .reached .ensures .0 ∙ ap₂ (λ (a b : ℕ). reachedOf a a b) s-is r-is in
+    let above : upper .reach-count .result ≡ reachedOf s s r = upper .reach-count .ensures .0 ∙ ap₂ (λ (a b : ℕ). reachedOf a a b) s-is r-is in
     let four : whole .takes .result ≡ part (takes r s) 1 = whole .takes .ensures .0 ∙ ap₂ (λ (a b : ℕ). part (takes b a) 1) s-is r-is in
-    let below : lower .reached2 .result ≡ reachedOf 0 s r = lower .reached2 .ensures .0 ∙ ap₂ (reachedOf 0) s-is r-is in
+    let below : lower .reach-count2 .result ≡ reachedOf 0 s r = lower .reach-count2 .ensures .0 ∙ ap₂ (reachedOf 0) s-is r-is in
     let side : signed .sign .result ≡ sign x = signed .sign .ensures .0 ∙ ap sign x-is in
     let magnitude = counted s r in
-    let n = signed .sign .result + lower .reached2 .result + whole .takes .result + upper .reached .result in
+    let n = signed .sign .result + lower .reach-count2 .result + whole .takes .result + upper .reach-count .result in
     let n-is : n ≡ sign x + greedy s r = omega (arith, above, four, below, side, magnitude) in
     let v-is : n ≡ part is 8 + greedy s r = n-is ∙ ap (λ (a : ℕ). a + greedy s r) (sign-is x) in
-    let d-is : taken .taken .result + found .step .result / 8 ≡ m s (greedy s r) + s / 8 = ap₂ (λ (a b : ℕ). a + b / 8) (taken .taken .ensures .0 ∙ ap₂ (λ (a b : ℕ). m a (greedy a b)) s-is r-is) s-is in
+    let d-is : taken .greedy-take .result + found .step .result / 8 ≡ m s (greedy s r) + s / 8 = ap₂ (λ (a b : ℕ). a + b / 8) (taken .greedy-take .ensures .0 ∙ ap₂ (λ (a b : ℕ). m a (greedy a b)) s-is r-is) s-is in
     let next =
     toZ-ofZ w16 _ h
     ∙ c .before .towards .ensures
@@ -69,14 +69,14 @@ returns c =
     ∙ ap (λ (b : Bool). aim p b (m s (greedy s r) + s / 8)) (ap (λ (y : ℤ). ltZ y (pos 0)) x-is)
     ∙ predicts s r is (negsuc 32767) (pos 32767) p in
     let index =
-    c .raised .ensures
-    ∙ ap₂ (λ (a b : ℕ). lift a b (upper .reached .result)) i-is four
+    c .raise-index .ensures
+    ∙ ap₂ (λ (a b : ℕ). lift a b (upper .reach-count .result)) i-is four
     ∙ ap (lift i (part (takes r s) 1)) above
     ∙ raises s r is 88 i in
     (n-is, omega arith, ap₂ state next index ∙ ap (stepped sixteen (start .args .steps .now) (wideOf (start .args .self))) (sym v-is))
 
-pub coded-spec : {M : Type 1} → statement M
-coded-spec =
+pub encode-step-spec : {M : Type 1} → statement M
+encode-step-spec =
     tie.close
     (tie.spec
     (λ c κs. search needs)

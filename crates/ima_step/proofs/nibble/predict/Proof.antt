@@ -1,4 +1,4 @@
--- `ima_step::nibble::predicted` meets its contract: the sum is exact in 32 bits, and what is clamped fits 16. Assumes nothing.
+-- `ima_step::nibble::predict` meets its contract: the sum is exact in 32 bits, and what is clamped fits 16. Assumes nothing.
 use mathlib.Core.Path.{_≡_, refl, ap, ap₂, _∙_}
 use mathlib.Core.Bool.{Bool, true, false, cond}
 use Prim.Native.Nat.{_≤_}
@@ -13,8 +13,8 @@ use Rattle.num.specs.Clamp.{clamp}
 use Rattle.num.proofs.Within.{mag-clamp}
 use Rattle.num.proofs.Signed.{mag-add, widens, widened, narrows, narrowed}
 use Rattle.ima_nibble.specs.Step.{predicted, bit, d}
-use Rattle.ima_step.proofs.nibble.predicted.Statement.{statement}
-use Rattle.ima_step.proofs.nibble.predicted.Tie as tie
+use Rattle.ima_step.proofs.nibble.predict.Statement.{statement}
+use Rattle.ima_step.proofs.nibble.predict.Tie as tie
 
 module _ (p x : ℤ) (f : SFits w16 p) (h : mag x ≤ 131072) where
   exact : toZ w32 (ofZ w32 (toZ w16 (ofZ w16 p))) +ℤ toZ w32 (ofZ w32 x) ≡ p +ℤ x
@@ -58,6 +58,6 @@ returns c =
     ∙ clamped c
     ∙ ap (clamp (negsuc 32767) (pos 32767)) (ap (λ (x : ℤ). a .predictor +ℤ x) (c .before .change .ensures .0) ∙ either (a .predictor) n (bit 8 (a .nibble)))
 
-pub predicted-spec : {M : Type 1} → statement M
-predicted-spec =
+pub predict-spec : {M : Type 1} → statement M
+predict-spec =
     tie.close (tie.spec cast-sum (λ c κs. search needs) add-sum (λ c κs. search needs) cast-result returns)

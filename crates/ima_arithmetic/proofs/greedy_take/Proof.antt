@@ -1,12 +1,12 @@
--- `ima_arithmetic::taken` meets its contract by the law `took`. Assumes nothing.
+-- `ima_arithmetic::greedy_take` meets its contract by the law `took`. Assumes nothing.
 use mathlib.Core.Path.{sym, ap, _∙_}
 use Prim.Native.Nat.{ℕ, _-_, _/_}
 use borrow.Author.Needs.{needs}
 use Rattle.ima_nibble.specs.Step.{left, greedy}
 use Rattle.ima_nibble.proofs.Fused.{took}
 use Rattle.ima_nibble.proofs.Parts.{m-le}
-use Rattle.ima_arithmetic.proofs.taken.Statement.{statement}
-use Rattle.ima_arithmetic.proofs.taken.Tie as tie
+use Rattle.ima_arithmetic.proofs.greedy_take.Statement.{statement}
+use Rattle.ima_arithmetic.proofs.greedy_take.Tie as tie
 
 returns : tie.Need-returns
 returns c =
@@ -17,5 +17,5 @@ returns c =
     let is = ap (λ (n : ℕ). a .r - n) three ∙ sym (took (a .s) (a .r)) in
     (is, rw is (m-le (a .s) (greedy (a .s) (a .r))))
 
-pub taken-spec : {M : Type 1} → statement M
-taken-spec = tie.close (tie.spec (λ c κs. search needs) (λ c κs. search needs) (λ c κs. search needs) (λ c. search needs) returns)
+pub greedy-take-spec : {M : Type 1} → statement M
+greedy-take-spec = tie.close (tie.spec (λ c κs. search needs) (λ c κs. search needs) (λ c κs. search needs) (λ c. search needs) returns)

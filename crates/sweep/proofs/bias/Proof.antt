@@ -1,4 +1,4 @@
--- `sweep::biased` meets its contract: a number of 16 bits and 32768 is not negative. Assumes nothing.
+-- `sweep::bias` meets its contract: a number of 16 bits and 32768 is not negative. Assumes nothing.
 use mathlib.Core.Path.{_≡_, refl, ap, _∙_}
 use Prim.Native.Nat.{suc, _<_}
 use native.Mathlib.Omega.{arith}
@@ -6,8 +6,8 @@ use lib.IntN.{ℤ, pos, negsuc, natAbs, _+ℤ_}
 use mir.Syntax.{w16, w32}
 use mir.Val.{SFits, toZ, ofZ}
 use Rattle.num.proofs.Signed.{sub-ge, widens, widened, fits-pos, casts, cast-is}
-use Rattle.sweep.proofs.biased.Statement.{statement}
-use Rattle.sweep.proofs.biased.Tie as tie
+use Rattle.sweep.proofs.bias.Statement.{statement}
+use Rattle.sweep.proofs.bias.Tie as tie
 
 up : (x : ℤ) → SFits w16 x → (x +ℤ pos 32768 ≡ pos (natAbs (x +ℤ pos 32768))) × (natAbs (x +ℤ pos 32768) < 65536)
 up (pos a) f = (refl, omega (arith, f .sfits))
@@ -35,5 +35,5 @@ returns c =
     let is = cast-is w32 _ _ (exact _ f) (lt (c .args .x) f) in
     (is, rw is (up (c .args .x) f .1))
 
-pub biased-spec : {M : Type 1} → statement M
-biased-spec = tie.close (tie.spec cast-result add-result cast-result-2 returns)
+pub bias-spec : {M : Type 1} → statement M
+bias-spec = tie.close (tie.spec cast-result add-result cast-result-2 returns)

@@ -1,4 +1,4 @@
--- `ima4_header::started` meets its contract: the header's two numbers are the definition's, and so is which of the two is taken. Assumes nothing.
+-- `ima4_header::start_state` meets its contract: the header's two numbers are the definition's, and so is which of the two is taken. Assumes nothing.
 use mathlib.Core.Path.{_≡_, refl, sym, ap, ap₂, _∙_}
 use Prim.Native.Nat.{ℕ, _+_, _*_, _/_, _%_, min, _<_}
 use native.Mathlib.Omega.{arith}
@@ -10,8 +10,8 @@ use Rattle.num.specs.Halves.{fromBits}
 use Rattle.ima_nibble.specs.Step.{state}
 use Rattle.adpcm_ima.specs.View.{stateOf}
 use Rattle.ima4_block.specs.Header.{headerState, keeps, startState}
-use Rattle.ima4_header.proofs.started.Statement.{statement}
-use Rattle.ima4_header.proofs.started.Tie as tie
+use Rattle.ima4_header.proofs.start_state.Statement.{statement}
+use Rattle.ima4_header.proofs.start_state.Tie as tie
 
 -- the header's bits by its two bytes
 bits : (high low : ℕ) → low < 256 → state (fromBits (high * 256 + low / 128 * 128)) (min (low % 128) 88) ≡ headerState (256 * high + low)
@@ -21,19 +21,19 @@ bits high low h =
     ap₂ (λ (n i : ℕ). state (fromBits n) (min i 88)) top index
 
 -- the arguments, from behind the header's state
-abbrev begin : tie.After-reloaded → tie.Start
+abbrev begin : tie.After-reload → tie.Start
 begin c = c .before .before .before
 
 -- the header's state, from behind whether the own one is kept
-abbrev reloaded : tie.After-keeps → tie.After-reloaded
+abbrev reloaded : tie.After-keeps → tie.After-reload
 reloaded c = c .before
 
 -- the header's state is the definition's, and so is whether the own one is kept
-reloads-it : (c : tie.After-reloaded) → let a = begin c .args in stateOf (c .reloaded .result) ≡ headerState (256 * a .high + a .low)
+reloads-it : (c : tie.After-reload) → let a = begin c .args in stateOf (c .reload .result) ≡ headerState (256 * a .high + a .low)
 reloads-it c =
     let s = begin c in
     let f : SFits w16 (c .before .before .from-halves .result) = search needs in
-    c .reloaded .ensures
+    c .reload .ensures
     ∙ ap₂ state (toZ-ofZ w16 _ f ∙ c .before .before .from-halves .ensures) (c .before .lesser .ensures)
     ∙ bits (s .args .high) (s .args .low) (s .fits .low .fits)
 
@@ -48,5 +48,5 @@ returns-2 : tie.Need-returns-2
 unfolding startState
 returns-2 c = rw (sym (kept (c .before)) ∙ c .if1 .left) (reloads-it (reloaded (c .before)))
 
-pub started-spec : {M : Type 1} → statement M
-started-spec = tie.close (tie.spec (λ c. search needs) (λ c κs. search needs) (λ c. search needs) (λ c κs. search needs) (λ c. search needs) (λ c κs. search needs) (λ c κs. search needs) returns returns-2)
+pub start-state-spec : {M : Type 1} → statement M
+start-state-spec = tie.close (tie.spec (λ c. search needs) (λ c κs. search needs) (λ c. search needs) (λ c κs. search needs) (λ c. search needs) (λ c κs. search needs) (λ c κs. search needs) returns returns-2)

@@ -1,4 +1,4 @@
--- `num::complemented` meets its contract: -1 - x where x is negative, and x itself elsewhere, are the complement. Assumes nothing.
+-- `num::complement` meets its contract: -1 - x where x is negative, and x itself elsewhere, are the complement. Assumes nothing.
 use mathlib.Core.Path.{_≡_, ap, _∙_}
 use Prim.Native.Nat.{suc}
 use mathlib.Core.Bool.{true, false}
@@ -9,8 +9,8 @@ use mir.Syntax.{w16}
 use mir.Val.{SFits, toZ, ofZ}
 use mir.ValLaws.{toZ-ofZ}
 use Rattle.num.proofs.Signed.{sub-ge, negative, positive, signed, fits-pos, casts, cast-is}
-use Rattle.num.proofs.complemented.Statement.{statement}
-use Rattle.num.proofs.complemented.Tie as tie
+use Rattle.num.proofs.complement.Statement.{statement}
+use Rattle.num.proofs.complement.Tie as tie
 
 -- the two arms
 module _ (x : ℤ) (f : SFits w16 x) where
@@ -38,5 +38,5 @@ returns c = let f = c .before .fits .x in cast-is w16 _ _ (below _ f (c .if1 .ta
 returns-2 : tie.Need-returns-2
 returns-2 c = let f = c .before .fits .x in cast-is w16 _ _ (other _ f (c .if1 .left)) (f .sfits)
 
-pub complemented-spec : {M : Type 1} → statement M
-complemented-spec = tie.close (tie.spec sub-result cast-result cast-result-2 returns returns-2)
+pub complement-spec : {M : Type 1} → statement M
+complement-spec = tie.close (tie.spec sub-result cast-result cast-result-2 returns returns-2)
