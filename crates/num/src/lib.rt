@@ -19,10 +19,10 @@ pub fn larger(a: u32, b: u32) -> u32
 }
 
 // The same of 16 bits.
-pub fn larger_u16(a: u16, b: u16) -> u16
-    ensures { λ r. ⌜ r ≡ max a b ⌝ }
+pub fn larger_u16(x: u16, y: u16) -> u16
+    ensures { λ r. ⌜ r ≡ max x y ⌝ }
 {
-    if a < b { b } else { a }
+    if x < y { y } else { x }
 }
 
 pub fn lesser(a: usize, b: usize) -> usize
@@ -32,10 +32,10 @@ pub fn lesser(a: usize, b: usize) -> usize
 }
 
 // The same of 32 bits.
-pub fn lesser_u32(a: u32, b: u32) -> u32
-    ensures { λ r. ⌜ r ≡ min a b ⌝ }
+pub fn lesser_u32(x: u32, y: u32) -> u32
+    ensures { λ r. ⌜ r ≡ min x y ⌝ }
 {
-    if a < b { a } else { b }
+    if x < y { x } else { y }
 }
 
 // a less b, or 0 where b is more.
