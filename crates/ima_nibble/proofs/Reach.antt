@@ -5,27 +5,28 @@ use mathlib.Core.Bool.{Bool, true, false, not, cond, _&&_, and-eq-true-iff, fals
 use Prim.Native.Nat.{ℕ, zero, suc, _+_, _/_, min, _<_, _≤_}
 use native.Mathlib.Nat.{lt-of-not-le}
 use native.Mathlib.Omega.{arith}
-use lib.Dec.{T, ltb, leb, eqb, leb→le}
+use lib.Dec.{T, leb, eqb, leb→le}
 use lib.IntN.{ℤ, pos, negsuc, negℤ, _+ℤ_, _-ℤ_}
 use lib.Signed.{ltZ, leZ, _≤ℤ_, ltZ-yes, ≤ℤ-refl, <ℤ-irrefl}
 use borrow.Author.Tests.{le-leb, lt-ltb, leb-true, ltb-true, eqb-true, eq-eqb, ne-eqb}
 use borrow.Table.Steps.{cases}
 use Rattle.num.proofs.Shift.{≤ℤ-trans, signed, take-off, put-on, rise, fall, shift-le, shift-lt-self, neg-le, neg-lt, clamp-step}
 use Rattle.num.proofs.Within.{clamp-within}
-use Rattle.ima_nibble.specs.Step.{bit, part, m, d, predicted, greedy, nibbleOf, needed, reachable}
+use Rattle.ima_nibble.specs.Step.{bit, part, m, d, predicted, greedy, nibbleOf, needed, canFall, signAlone, reachable}
 use Rattle.ima_nibble.proofs.Bounds.{nibble-lt}
 use Rattle.ima_nibble.proofs.Parts.{parts, none, finds, empty}
 
 -- the test on naturals, with a room of a below the predictor and of b above it, and what it says where it passed
 abbrev test : ℕ → ℕ → ℕ → ℕ → Bool → Bool
-test s a b v is = cond is (leb (needed s v) a && ltb 0 a && not (eqb v 8 && eqb (s / 8) 0)) (leb (needed s v) b)
+test s a b v is = cond is (leb (needed s v) a && canFall (pos 0) (pos a) && not (eqb v signAlone && eqb (s / 8) 0)) (leb (needed s v) b)
 
 passed : (s a b v : ℕ) (is : Bool) → test s a b v is ≡ true
-    → (needed s v ≤ cond is a b) × (T is → (0 < cond is a b) × (v ≡ part is 8 → s / 8 ≡ 0 → ⊥))
+    → (needed s v ≤ cond is a b) × (T is → (canFall (pos 0) (pos (cond is a b)) ≡ true) × (v ≡ part is signAlone → s / 8 ≡ 0 → ⊥))
 passed s a b v true t =
-    let (u, n) = and-eq-true-iff (leb (needed s v) a && ltb 0 a) (not (eqb v 8 && eqb (s / 8) 0)) .0 t in
-    let (l, h) = and-eq-true-iff (leb (needed s v) a) (ltb 0 a) .0 u in
-    (leb-true (needed s v) a l, λ _. (ltb-true 0 a h, λ e z. false≢true (rw (eq-eqb v 8 e, eq-eqb (s / 8) 0 z) at n)))
+    let falls = canFall (pos 0) (pos a) in
+    let (u, n) = and-eq-true-iff (leb (needed s v) a && falls) (not (eqb v signAlone && eqb (s / 8) 0)) .0 t in
+    let (l, h) = and-eq-true-iff (leb (needed s v) a) falls .0 u in
+    (leb-true (needed s v) a l, λ _. (h, λ e z. false≢true (rw (eq-eqb v signAlone e, eq-eqb (s / 8) 0 z) at n)))
 passed s a b v false t = (leb-true (needed s v) b t, λ t. absurd t)
 
 -- the nibble of a distance r on one side, where 0 is no distance below
@@ -48,7 +49,7 @@ module _ (lowest highest : ℤ) (s : ℕ) (4≤s : 4 ≤ s) (p : ℤ) (a b : ℕ
       let z = negℤ (pos a) in
       let fits = shift-le p z (negℤ n) ∙ neg-le (pos a) n in
       let above = shift-lt-self p z ∙ neg-lt (pos a) (pos 0) in
-      let negative = ap₂ (λ (x y : Bool). x && y && not (eqb v 8 && eqb (s / 8) 0)) fits above in
+      let negative = ap₂ (λ (x y : Bool). x && y && not (eqb v signAlone && eqb (s / 8) 0)) fits above in
       rw (low, high) (ap₂ (cond (bit 8 v)) negative (shift-le p n (pos b)))
 
   emits-at : (z : ℤ) → lowest ≤ℤ (p +ℤ z) → (p +ℤ z) ≤ℤ highest → reachable lowest highest s p (nibbleOf s p (p +ℤ z)) ≡ true
@@ -62,9 +63,9 @@ module _ (lowest highest : ℤ) (s : ℕ) (4≤s : 4 ≤ s) (p : ℤ) (a b : ℕ
       let v = 8 + greedy s (suc n) in
       let (fits, sign) = parts s (suc n) true in
       let room = leb→le (suc n) a (rw (low, shift-le p (negℤ (pos a)) (negsuc n), neg-le (pos a) (pos (suc n))) at (l .le)) in
-      let some : v ≡ 8 → s / 8 ≡ 0 → ⊥ = λ e z. omega (arith, none s (suc n) (omega arith)) in
+      let some : v ≡ signAlone → s / 8 ≡ 0 → ⊥ = λ e z. omega (arith, none s (suc n) (omega arith)) in
       rw (take-off p (negsuc n), reachable-is v, sign, le-leb (needed s v) a (omega arith), lt-ltb 0 a (omega arith))
-      (cases (eqb v 8) (λ e. rw (e, ne-eqb (s / 8) 0 (some (eqb-true v 8 e)))) (λ e. rw e))
+      (cases (eqb v signAlone) (λ e. rw (e, ne-eqb (s / 8) 0 (some (eqb-true v signAlone e)))) (λ e. rw e))
 
   -- a reachable nibble comes back
   returns : (v : ℕ) → v < 16 → reachable lowest highest s p v ≡ true → nibbleOf s p (predicted lowest highest s p v) ≡ v
@@ -74,7 +75,7 @@ module _ (lowest highest : ℤ) (s : ℕ) (4≤s : 4 ≤ s) (p : ℤ) (a b : ℕ
       let (l, k) = passed s a b v is (rw (reachable-is v) at t) in
       let some : T is → 0 < d s v = λ u. lt-of-not-le (λ z. k u .1 (empty s 4≤s v h (omega arith)) (omega arith)) in
       rw (predicted-is v)
-      (nibble-is s p is r (λ u. omega (arith, k u .0, some u)) ∙ finds s 4≤s v h r (omega arith) (omega arith))
+      (nibble-is s p is r (λ u. let falls = k u .0 in omega (arith, ltb-true, some u)) ∙ finds s 4≤s v h r (omega arith) (omega arith))
 
 -- A decoded sample is within the limits, at any step.
 pub within : {lowest highest p : ℤ} → lowest ≤ℤ p → p ≤ℤ highest → (s v : ℕ) → (lowest ≤ℤ predicted lowest highest s p v) × (predicted lowest highest s p v ≤ℤ highest)

@@ -113,11 +113,18 @@ emitted limits steps st x = nibbleOf (stepAt limits steps st) (st .predictor) x
 abbrev pub needed : ℕ → ℕ → ℕ
 needed s v = m s v
 
--- and a negative nibble also needs a predictor above the lower limit, and is not 8 where s/8 is 0.
+-- and a negative nibble also needs a predictor above the lower limit,
+abbrev pub canFall : ℤ → ℤ → Bool
+canFall lowest p = ltZ lowest p
+
+-- and is not 8 where s/8 is 0.
+abbrev pub signAlone : ℕ
+signAlone = 8
+
 unfoldable pub reachable : ℤ → ℤ → ℕ → ℤ → ℕ → Bool
 reachable lowest highest s p v =
     cond (bit 8 v)
-    (leZ lowest (p -ℤ pos (needed s v)) && ltZ lowest p && not (eqb v 8 && eqb (s / 8) 0))
+    (leZ lowest (p -ℤ pos (needed s v)) && canFall lowest p && not (eqb v signAlone && eqb (s / 8) 0))
     (leZ (p +ℤ pos (needed s v)) highest)
 
 -- ---- Width
