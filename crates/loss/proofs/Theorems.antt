@@ -1,7 +1,7 @@
 -- What the report says of equal runs, and of no others. Assumes nothing.
 use mathlib.Core.Path.{_≡_, refl, sym, ap, ap₂, _∙_}
 use mathlib.Core.List.{List, [], _∷_}
-use mathlib.Core.Option.{none, Option·some-injective, Option·some-ne-none}
+use mathlib.Core.Option.{Option, none, Option·some-injective, Option·some-ne-none}
 use Prim.Native.Nat.{ℕ, suc, _≤_}
 use native.Mathlib.Omega.{arith}
 use lib.Dec.{eqb}
@@ -9,10 +9,11 @@ use lib.IntN.{ℤ, pos, negsuc, natAbs, _+ℤ_, _-ℤ_, +ℤ-idl, +ℤ-invr, -�
 use lib.ListN.{length}
 use borrow.Author.Tests.{eqb-true}
 use borrow.Table.Steps.{cases}
-use Rattle.num.specs.Outcome.{outcome, Faithful}
+use Rattle.num.specs.Outcome.{Outcome, outcome, Faithful}
 use Rattle.loss.specs.declared.First.{First}
+use Rattle.loss.specs.declared.Loss.{Loss}
 use Rattle.loss.specs.declared.First.the-variants.{At, Nowhere}
-use Rattle.loss.specs.Loss.{placeOf, distance, distances, countOf, firstFrom, largest, report, reportOf, lossReport}
+use Rattle.loss.specs.Loss.{Report, placeOf, distance, distances, countOf, firstFrom, largest, report, reportOf, lossReport}
 use Rattle.loss.proofs.Places.{taken}
 
 -- ---- two samples
@@ -56,7 +57,7 @@ module _ (xs ys : List ℤ) (same : length xs ≡ length ys) (few : length xs �
       let (c, f, l) = nothing xs 0 in
       taken xs ys same few ∙ ap (λ (zs : List ℤ). outcome 0 (reportOf (distances xs zs)) tt) (sym e) ∙ rw (c, f, l) refl
 
--- ---- the view
+-- ---- one result
 
 -- The view of a first place loses nothing.
 pub place-faithful : Faithful placeOf
@@ -64,3 +65,16 @@ place-faithful (At k) (At l) e = ap At (Option·some-injective k l e)
 place-faithful (At k) Nowhere e = absurd (Option·some-ne-none k e)
 place-faithful Nowhere (At l) e = absurd (Option·some-ne-none l (sym e))
 place-faithful Nowhere Nowhere e = refl
+
+-- Two results that the report allows for one input coincide.
+pub loss-coincide : (allowed : Outcome (Report (Option ℕ)) Unit) (r s : Loss)
+    → outcome (r .refusal) (report (r .count) (placeOf (r .first)) (r .peak)) tt ≡ allowed
+    → outcome (s .refusal) (report (s .count) (placeOf (s .first)) (s .peak)) tt ≡ allowed
+    → r ≡ s
+loss-coincide allowed r s is is′ =
+    let same = is ∙ sym is′ in
+    let number = ap (λ o. o .number) same in
+    let count = ap (λ o. o .back .count) same in
+    let first = place-faithful (r .first) (s .first) (ap (λ o. o .back .first) same) in
+    let peak = ap (λ o. o .back .peak) same in
+    λ i. record { refusal = number i; count = count i; first = first i; peak = peak i }
