@@ -1,7 +1,7 @@
 // Two ima4 blocks that were encoded as one run and are decoded apart. The second one's header has no room
 // for the low seven bits of the predictor: a decoder that is given the state has them, one that starts
 // from a zeroed state has not, and its samples move.
-use crate::print::signed;
+use crate::print::print_signed;
 use adpcm_ima::AdpcmImaState;
 use ima4_decode::decode_adpcm_ima_ima4_run;
 use ima4_encode::encode_adpcm_ima_ima4_run;
@@ -18,19 +18,19 @@ pub(crate) fn show() {
     encode_adpcm_ima_ima4_run(&samples, AdpcmImaState::new(), &mut bytes);
     let mut whole = [0i16; 128];
     decode_adpcm_ima_ima4_run(&bytes, AdpcmImaState::new(), &mut whole);
-    apart(&bytes, &whole[64..]);
+    decode_apart(&bytes, &whole[64..]);
 }
 
 // `second` is what the second block decodes to in the run that is not cut.
-fn apart(bytes: &[u8], second: &[i16])
+fn decode_apart(bytes: &[u8], second: &[i16])
     requires { ⌜ length (now bytes) ≡ 68 ⌝ }
 {
     let mut samples = [0i16; 64];
     let first = decode_adpcm_ima_ima4_run(&bytes[0..34], AdpcmImaState::new(), &mut samples);
     decode_adpcm_ima_ima4_run(&bytes[34..], first.state, &mut samples);
-    compared(b"second block, state carried:", second, &samples);
+    print_compared(b"second block, state carried:", second, &samples);
     decode_adpcm_ima_ima4_run(&bytes[34..], AdpcmImaState::new(), &mut samples);
-    compared(b"second block, state zeroed:", second, &samples);
+    print_compared(b"second block, state zeroed:", second, &samples);
 }
 
 // Up and down, 40 samples long.
@@ -50,11 +50,11 @@ fn height(k: usize) -> i16
 }
 
 // The first eight samples, and how many are not those of the run that was not cut.
-fn compared(name: &[u8], second: &[i16], samples: &[i16]) {
+fn print_compared(name: &[u8], second: &[i16], samples: &[i16]) {
     io::write_all(STDOUT_FILENO, name);
     print_first(samples);
     io::write_all(STDOUT_FILENO, b" .., ");
-    io::print_decimal(STDOUT_FILENO, moved(second, samples) as u64);
+    io::print_decimal(STDOUT_FILENO, count_moved(second, samples) as u64);
     io::write_all(STDOUT_FILENO, b" of 64 moved\n");
 }
 
@@ -64,12 +64,12 @@ fn print_first(samples: &[i16]) {
     while k < n {
         let x = samples[k];
         io::write_all(STDOUT_FILENO, b" ");
-        signed(x);
+        print_signed(x);
         k += 1;
     }
 }
 
-fn moved(second: &[i16], samples: &[i16]) -> usize {
+fn count_moved(second: &[i16], samples: &[i16]) -> usize {
     let n = lesser(second.len(), samples.len());
     let mut count = 0;
     let mut k = 0;

@@ -1,7 +1,7 @@
 // Numbers in decimal.
 use libc::STDOUT_FILENO;
 
-pub(crate) fn signed(x: i16) {
+pub(crate) fn print_signed(x: i16) {
     let size = num::complement(x) as u64;
     if x < 0 {
         io::write_all(STDOUT_FILENO, b"-");

@@ -10,37 +10,37 @@ ghost use Prim.Native.Nat.{_≤_};
 ghost use lib.ListN.{length};
 
 pub(crate) fn show() {
-    decoded(1, 3);
-    decoded(1, 4);
-    decoded(2, 8);
-    decoded(2, 12);
-    decoded(1, 65536);
-    decoded(2, 65536);
-    encoded(1, 0);
-    encoded(2, 0);
-    encoded(2, 2);
-    encoded(2, 18);
-    encoded(2, 10);
+    print_decode(1, 3);
+    print_decode(1, 4);
+    print_decode(2, 8);
+    print_decode(2, 12);
+    print_decode(1, 65536);
+    print_decode(2, 65536);
+    print_encode(1, 0);
+    print_encode(2, 0);
+    print_encode(2, 2);
+    print_encode(2, 18);
+    print_encode(2, 10);
 }
 
-fn decoded(channels: u8, n: usize)
+fn print_decode(channels: u8, n: usize)
     requires { ⌜ n ≤ 65536 ⌝ }
 {
     let block = [0u8; 65536];
     let mut samples = [0i16; 131072];
     let m = monus(2 * n, 7 * channels as usize);
-    asked(b"decode ", channels, n);
-    answered(b" bytes", decode(channels, &block, n, &mut samples, m));
+    print_question(b"decode ", channels, n);
+    print_answer(b" bytes", decode(channels, &block, n, &mut samples, m));
 }
 
-fn encoded(channels: u8, m: usize)
+fn print_encode(channels: u8, m: usize)
     requires { ⌜ (channels ≤ 2) × (m ≤ 18) ⌝ }
 {
     let samples = [0i16; 18];
     let mut block = [0u8; 16];
     let n = (m + 7 * channels as usize) / 2;
-    asked(b"encode ", channels, m);
-    answered(b" samples", encode(channels, &samples, m, &mut block, n));
+    print_question(b"encode ", channels, m);
+    print_answer(b" samples", encode(channels, &samples, m, &mut block, n));
 }
 
 fn decode(channels: u8, block: &[u8], n: usize, samples: &mut [i16], m: usize) -> u8
@@ -57,7 +57,7 @@ fn encode(channels: u8, samples: &[i16], m: usize, block: &mut [u8], n: usize) -
     answer.refusal
 }
 
-fn asked(call: &[u8], channels: u8, length: usize) {
+fn print_question(call: &[u8], channels: u8, length: usize) {
     text(call);
     if channels == 1 {
         number(b"mono, ", length as u64);
@@ -66,7 +66,7 @@ fn asked(call: &[u8], channels: u8, length: usize) {
     }
 }
 
-fn answered(unit: &[u8], refusal: u8) {
+fn print_answer(unit: &[u8], refusal: u8) {
     text(unit);
     if refusal == 0 {
         text(b" taken\n");

@@ -10,7 +10,7 @@ pub(crate) fn number(front: &[u8], n: u64) {
     io::print_decimal(STDOUT_FILENO, n);
 }
 
-pub(crate) fn signed(front: &[u8], x: i16) {
+pub(crate) fn signed_number(front: &[u8], x: i16) {
     let size = num::complement(x) as u64;
     text(front);
     if x < 0 {

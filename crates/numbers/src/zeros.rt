@@ -1,7 +1,7 @@
 // Ima4 blocks whose nibbles are all 0. The last two numbers are an easy slip: lowered before it is compared with the header's 88, an
 // index of 200 would keep its state, as 88 does.
 use crate::say::number;
-use crate::say::signed;
+use crate::say::signed_number;
 use crate::say::text;
 use crate::state;
 use ima4_decode::decode_adpcm_ima_ima4;
@@ -16,30 +16,30 @@ pub(crate) fn show() {
 }
 
 fn zero(predictor: i16, index: u8) {
-    let from = state::of(predictor, index);
+    let from = state::make(predictor, index);
     let block = [0u8; 34];
     let mut samples = [1i16; 64];
     decode_adpcm_ima_ima4(&block, from, &mut samples);
     let first = samples[0];
     state::print(b"all-zero ima4 block: from ", from);
-    number(b" ", alike(&samples, first) as u64);
-    signed(b" samples of ", first);
+    number(b" ", count_alike(&samples, first) as u64);
+    signed_number(b" samples of ", first);
     text(b"\n");
 }
 
 fn header_88(predictor: i16, index: u8) {
-    let from = state::of(predictor, index);
+    let from = state::make(predictor, index);
     let mut block = [0u8; 34];
     block[1] = 88;
     let mut samples = [1i16; 64];
     decode_adpcm_ima_ima4(&block, from, &mut samples);
     state::print(b"ima4 block with header (0,88): from ", from);
-    signed(b" first sample ", samples[0]);
+    signed_number(b" first sample ", samples[0]);
     text(b"\n");
 }
 
 // How many of the samples are x.
-fn alike(samples: &[i16], x: i16) -> usize {
+fn count_alike(samples: &[i16], x: i16) -> usize {
     let mut count = 0;
     let mut k = 0;
     while k < samples.len() {

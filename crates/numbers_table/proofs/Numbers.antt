@@ -12,9 +12,9 @@ use Rattle.ms_block.specs.Weave.{strand, woven}
 use Rattle.ms_block.specs.Block.{decodedChannel, encodedChannel, decodedMsBlock, begun, blockFrom}
 use Rattle.ms_block.specs.Call.{decodeMs}
 use Rattle.ms_repacked.specs.Repack.{repacked, anyChange, repackMs}
-use Rattle.numbers_table.specs.Numbers.{numbers, given, said}
+use Rattle.numbers_table.specs.Numbers.{numbers, leftColumn, rightColumn}
 
-pub numbers-hold : given numbers ≡ said numbers
+pub numbers-hold : leftColumn numbers ≡ rightColumn numbers
 unfolding stepAt m predicted indexed stepped greedy nibbleOf imaSteps decoded encoded nibblesOf packed
     sampleOf segment fourBits codeOf digitsIn bitLength
     from strand woven headOf msRefusal decodedChannel encodedChannel decodedMsBlock begun blockFrom decodeMs

@@ -19,18 +19,18 @@ infix 68 _gives_
 pub data Row : Type 1 where
   _gives_ : {Y : Type 0} → Y → Y → Row
 
--- A column: one thing of each row's type. What is given, and what is said, are the two columns of a table.
+-- A column: one thing of each row's type. The left column is what the definitions give, and the right one what the scope says.
 abbrev pub Column : List Row → Type 0
 Column [] = Unit
 Column (_gives_ {Y} x y ∷ rows) = Y × Column rows
 
-abbrev pub given : (rows : List Row) → Column rows
-given [] = tt
-given (x gives y ∷ rows) = (x, given rows)
+abbrev pub leftColumn : (rows : List Row) → Column rows
+leftColumn [] = tt
+leftColumn (x gives y ∷ rows) = (x, leftColumn rows)
 
-abbrev pub said : (rows : List Row) → Column rows
-said [] = tt
-said (x gives y ∷ rows) = (y, said rows)
+abbrev pub rightColumn : (rows : List Row) → Column rows
+rightColumn [] = tt
+rightColumn (x gives y ∷ rows) = (y, rightColumn rows)
 
 -- ---- What the rows ask
 

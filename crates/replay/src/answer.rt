@@ -7,7 +7,7 @@ pub(crate) struct Answer {
     pub(crate) same: bool,
 }
 
-pub(crate) fn no_call() -> Answer
+pub(crate) fn unknown_call() -> Answer
     ensures { λ r. ⌜ r .call < 9 ⌝ }
 {
     Answer {

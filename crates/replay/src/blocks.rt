@@ -2,7 +2,7 @@
 // state after. 34 bytes and 64 samples are the input and the answer, whichever way it goes, so the lines
 // of both calls are 169 bytes long.
 use crate::answer::Answer;
-use crate::answer::no_call;
+use crate::answer::unknown_call;
 use crate::state::state_at;
 use check::same;
 use ima4_decode::decode_adpcm_ima_ima4;
@@ -12,7 +12,7 @@ ghost use mathlib.Core.Path.{_≡_};
 ghost use Prim.Native.Nat.{_*_, _<_};
 ghost use lib.ListN.{length};
 
-pub(crate) fn answered(bytes: &[u8]) -> Answer
+pub(crate) fn check_line(bytes: &[u8]) -> Answer
     requires { ⌜ length (now bytes) ≡ 169 ⌝ }
     ensures { λ r. ⌜ r .call < 9 ⌝ }
 {
@@ -20,17 +20,17 @@ pub(crate) fn answered(bytes: &[u8]) -> Answer
     match call {
         7 => Answer {
             call: 7,
-            same: decoded(bytes),
+            same: check_decode(bytes),
         },
         8 => Answer {
             call: 8,
-            same: encoded(bytes),
+            same: check_encode(bytes),
         },
-        _ => no_call(),
+        _ => unknown_call(),
     }
 }
 
-fn decoded(bytes: &[u8]) -> bool
+fn check_decode(bytes: &[u8]) -> bool
     requires { ⌜ length (now bytes) ≡ 169 ⌝ }
 {
     let before = state_at(bytes, 1);
@@ -47,7 +47,7 @@ fn decoded(bytes: &[u8]) -> bool
     }
 }
 
-fn encoded(bytes: &[u8]) -> bool
+fn check_encode(bytes: &[u8]) -> bool
     requires { ⌜ length (now bytes) ≡ 169 ⌝ }
 {
     let before = state_at(bytes, 1);

@@ -1,6 +1,6 @@
 // The calls of the two laws.
 use crate::answer::Answer;
-use crate::answer::no_call;
+use crate::answer::unknown_call;
 use g711::decode_alaw;
 use g711::decode_ulaw;
 use g711::encode_alaw;
@@ -10,7 +10,7 @@ ghost use mathlib.Core.Path.{_≡_};
 ghost use Prim.Native.Nat.{_<_};
 ghost use lib.ListN.{length};
 
-pub(crate) fn answered(bytes: &[u8]) -> Answer
+pub(crate) fn check_line(bytes: &[u8]) -> Answer
     requires { ⌜ length (now bytes) ≡ 4 ⌝ }
     ensures { λ r. ⌜ r .call < 9 ⌝ }
 {
@@ -35,6 +35,6 @@ pub(crate) fn answered(bytes: &[u8]) -> Answer
             call: 4,
             same: encode_alaw(from_halves(a, b)) == c,
         },
-        _ => no_call(),
+        _ => unknown_call(),
     }
 }

@@ -9,7 +9,7 @@ mod nibbles;
 mod state;
 
 use answer::Answer;
-use answer::no_call;
+use answer::unknown_call;
 use libc::STDOUT_FILENO;
 use list::read_line;
 ghost use Prim.Native.Nat.{_<_};
@@ -52,38 +52,38 @@ fn replay(text: &[u8]) {
         at = line.next;
         let count = line.count;
         if line.is_call {
-            tally = counted(tally, &bytes[..count]);
+            tally = count_line(tally, &bytes[..count]);
         }
     }
     print_tally(tally);
 }
 
-fn counted(tally: Tally, bytes: &[u8]) -> Tally {
+fn count_line(tally: Tally, bytes: &[u8]) -> Tally {
     let mut next = tally;
-    let answer = answered(bytes);
+    let answer = check_line(bytes);
     let call = answer.call;
     if answer.same {
-        next.same[call] = more(next.same[call]);
+        next.same[call] = increment(next.same[call]);
     } else {
-        next.differ[call] = more(next.differ[call]);
+        next.differ[call] = increment(next.differ[call]);
     }
     next
 }
 
 // A line of four bytes is a call of a law, one of ten a nibble, one of 169 a block.
-fn answered(bytes: &[u8]) -> Answer
+fn check_line(bytes: &[u8]) -> Answer
     ensures { λ r. ⌜ r .call < 9 ⌝ }
 {
     match bytes.len() {
-        4 => laws::answered(bytes),
-        10 => nibbles::answered(bytes),
-        169 => blocks::answered(bytes),
-        _ => no_call(),
+        4 => laws::check_line(bytes),
+        10 => nibbles::check_line(bytes),
+        169 => blocks::check_line(bytes),
+        _ => unknown_call(),
     }
 }
 
 // One more, up to more than there are lines.
-fn more(n: u64) -> u64 {
+fn increment(n: u64) -> u64 {
     if n < 1_000_000 { n + 1 } else { n }
 }
 

@@ -1,13 +1,13 @@
 // The calls on one nibble.
 use crate::answer::Answer;
-use crate::answer::no_call;
+use crate::answer::unknown_call;
 use crate::state::state_at;
 use num::from_halves;
 ghost use mathlib.Core.Path.{_≡_};
 ghost use Prim.Native.Nat.{_<_};
 ghost use lib.ListN.{length};
 
-pub(crate) fn answered(bytes: &[u8]) -> Answer
+pub(crate) fn check_line(bytes: &[u8]) -> Answer
     requires { ⌜ length (now bytes) ≡ 10 ⌝ }
     ensures { λ r. ⌜ r .call < 9 ⌝ }
 {
@@ -15,17 +15,17 @@ pub(crate) fn answered(bytes: &[u8]) -> Answer
     match call {
         5 => Answer {
             call: 5,
-            same: decoded(bytes),
+            same: check_decode(bytes),
         },
         6 => Answer {
             call: 6,
-            same: encoded(bytes),
+            same: check_encode(bytes),
         },
-        _ => no_call(),
+        _ => unknown_call(),
     }
 }
 
-fn decoded(bytes: &[u8]) -> bool
+fn check_decode(bytes: &[u8]) -> bool
     requires { ⌜ length (now bytes) ≡ 10 ⌝ }
 {
     let nibble = bytes[1];
@@ -40,7 +40,7 @@ fn decoded(bytes: &[u8]) -> bool
     }
 }
 
-fn encoded(bytes: &[u8]) -> bool
+fn check_encode(bytes: &[u8]) -> bool
     requires { ⌜ length (now bytes) ≡ 10 ⌝ }
 {
     let sample = from_halves(bytes[1], bytes[2]);

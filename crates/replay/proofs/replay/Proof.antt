@@ -25,11 +25,11 @@ read-line-requires c κs = search needs
 array-share-prefix-bytes : tie.Need-array-share-prefix-bytes Inv-loop μ-loop
 array-share-prefix-bytes c = search needs
 
-slice-aggregate-counted : tie.Need-slice-aggregate-counted Inv-loop μ-loop
-slice-aggregate-counted c = simp length-take (omega arith)
+slice-aggregate-count-line : tie.Need-slice-aggregate-count-line Inv-loop μ-loop
+slice-aggregate-count-line c = simp length-take (omega arith)
 
-counted-requires : tie.Need-counted-requires Inv-loop μ-loop
-counted-requires c κs = search needs
+count-line-requires : tie.Need-count-line-requires Inv-loop μ-loop
+count-line-requires c κs = search needs
 
 loop-less : tie.Need-loop-less Inv-loop μ-loop
 loop-less c = search needs
@@ -59,8 +59,8 @@ replay-spec =
     slice-aggregate-read-line
     read-line-requires
     array-share-prefix-bytes
-    slice-aggregate-counted
-    counted-requires
+    slice-aggregate-count-line
+    count-line-requires
     loop-less
     loop-again
     loop-less-2

@@ -1,10 +1,10 @@
--- `numbers::zeros::alike` ends and stays within its slice. Assumes nothing.
+-- `numbers::zeros::count_alike` ends and stays within its slice. Assumes nothing.
 use mathlib.Core.Logic.{⊎-elim}
 use Prim.Native.Nat.{_-_, _≤_}
 use lib.ListN.{length}
 use borrow.Author.Needs.{needs}
-use Rattle.numbers.proofs.zeros.alike.Statement.{statement}
-use Rattle.numbers.proofs.zeros.alike.Tie as tie
+use Rattle.numbers.proofs.zeros.count_alike.Statement.{statement}
+use Rattle.numbers.proofs.zeros.count_alike.Tie as tie
 
 abbrev Inv-loop : tie.InvT-loop
 Inv-loop samples x count₀ k₀ count k = (count ≤ k) × (k ≤ length samples)
@@ -12,8 +12,8 @@ Inv-loop samples x count₀ k₀ count k = (count ≤ k) × (k ≤ length sample
 abbrev μ-loop : tie.MeasureT-loop
 μ-loop samples x count₀ k₀ count k = length samples - k
 
-pub alike-spec : {M : Type 1} → statement M
-alike-spec =
+pub count-alike-spec : {M : Type 1} → statement M
+count-alike-spec =
     tie.close
     (tie.spec
     Inv-loop
