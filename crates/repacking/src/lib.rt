@@ -31,7 +31,7 @@ pub fn repack_adpcm_ima_ms(channels: u8, block: &[u8], out: &mut [u8]) -> Answer
 {
     let number = repack_refusal(channels, block.len(), out.len());
     if number == 0 {
-        all(channels as usize, block, out);
+        repack_channels(channels as usize, block, out);
         Answer {
             refusal: 0,
             changed: any_change(block, out),
@@ -58,7 +58,7 @@ fn any_change(block: &[u8], out: &[u8]) -> bool
     false
 }
 
-fn all(c: usize, block: &[u8], out: &mut [u8])
+fn repack_channels(c: usize, block: &[u8], out: &mut [u8])
     requires { ⌜ Alike c (now block) (now out) ⌝ }
     ensures { λ _. ⌜ now (out .exit) ≡ repacked c (now (block .entry)) ⌝ }
 {

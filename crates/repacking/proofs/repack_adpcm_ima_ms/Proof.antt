@@ -24,8 +24,8 @@ taken c =
     let a = start (c .before) .args in
     allowed (a .channels) (length (a .block .now)) (length (a .out .now)) (sym (c .before .repack-refusal .ensures) ∙ c .if1 .taken)
 
-all-requires : tie.Need-all-requires
-all-requires c κs = taken (c .before)
+repack-channels-requires : tie.Need-repack-channels-requires
+repack-channels-requires c κs = taken (c .before)
 
 any-change-requires : tie.Need-any-change-requires
 any-change-requires c κs =
@@ -39,7 +39,7 @@ returns c =
     let read = c .before .before .before in
     let s = read .before .before .before in
     let a = start (s .before) .args in
-    let is = read .before .all .ensures in
+    let is = read .before .repack-channels .ensures in
     rw (sym (s .before .repack-refusal .ensures) ∙ s .if1 .taken) (ap₂ (λ (b : Bool) (bs : List ℕ). outcome 0 b bs) (c .any-change .ensures ∙ ap (anyChange (a .block .now)) is) is)
 
 returns-2 : tie.Need-returns-2
@@ -53,4 +53,4 @@ returns-2 c =
 pub repack-adpcm-ima-ms-spec : {M : Type 1} → statement M
 repack-adpcm-ima-ms-spec =
     tie.close
-    (tie.spec (λ c κs. search needs) all-requires any-change-requires (λ c. search needs) returns returns-2)
+    (tie.spec (λ c κs. search needs) repack-channels-requires any-change-requires (λ c. search needs) returns returns-2)

@@ -1,4 +1,4 @@
--- `repacking::all` meets its contract: one channel behind the other. Assumes nothing.
+-- `repacking::repack_channels` meets its contract: one channel behind the other. Assumes nothing.
 use mathlib.Core.Path.{_≡_, sym, _∙_, subst}
 use Prim.Native.Nat.{ℕ, _-_, _≤_}
 use native.Mathlib.Omega.{arith}
@@ -8,8 +8,8 @@ use Rattle.ms_block.specs.Sizes.{samplesOf}
 use Rattle.ms_block.proofs.Sizes.{shape}
 use Rattle.ms_repacked.specs.Private.{Upto}
 use Rattle.ms_repacked.proofs.Midway.{ends}
-use Rattle.repacking.proofs.all.Statement.{statement}
-use Rattle.repacking.proofs.all.Tie as tie
+use Rattle.repacking.proofs.repack_channels.Statement.{statement}
+use Rattle.repacking.proofs.repack_channels.Tie as tie
 
 abbrev Inv-loop : tie.InvT-loop
 Inv-loop c block out₀ ch₀ out ch = Upto c block ch 0 out × (length out ≡ length block) × (ch ≤ c)
@@ -47,8 +47,8 @@ returns c =
     ends (a .block .now) (shape (a .c) n (samplesOf (a .c) n) (s .pre .0)) (c .before .loop .out) (inv .1)
     (subst (λ (e : ℕ). Upto (a .c) (a .block .now) e 0 (c .before .loop .out)) done (inv .0))
 
-pub all-spec : {M : Type 1} → statement M
-all-spec =
+pub repack-channels-spec : {M : Type 1} → statement M
+repack-channels-spec =
     tie.close
     (tie.spec
     Inv-loop
