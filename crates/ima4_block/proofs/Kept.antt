@@ -9,7 +9,7 @@ use lib.Ieee.Bits.{is-true}
 use lib.IntN.{ℤ, pos, negsuc, _+ℤ_, _-ℤ_}
 use lib.Signed.{leZ, _≤ℤ_}
 use borrow.Author.Tests.{lt-ltb, le-ltb, eq-eqb, ne-eqb}
-use Rattle.num.specs.Halves.{fromBits, bitsOf}
+use Rattle.halves.specs.Halves.{fromBits, bitsOf}
 use Rattle.num.proofs.Shift.{shift-le}
 use Rattle.num.proofs.Within.{clamp-under, clamp-over}
 use Rattle.ima_nibble.specs.Step.{State, sixteen, In, Good}

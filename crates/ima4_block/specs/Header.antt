@@ -6,7 +6,7 @@ use lib.Dec.{eqb}
 use lib.IntN.{ℤ, pos, _+ℤ_, _-ℤ_}
 use lib.Signed.{leZ}
 use Rattle.num.specs.Clamp.{clamp}
-use Rattle.num.specs.Halves.{fromBits, bitsOf}
+use Rattle.halves.specs.Halves.{fromBits, bitsOf}
 use Rattle.ima_nibble.specs.Step.{State, state, sixteen, lowered}
 
 -- A block is 34 bytes: big-endian, nine top bits of the predictor, seven bits of index;

@@ -1,13 +1,13 @@
 // Samples to ima4 blocks, one at a time and in runs. A state goes in by value and comes back.
 use adpcm_ima::AdpcmImaState;
 use adpcm_ima::IMA_STEP_TABLE;
+use halves::pack;
 use ima4_call::Answer;
 use ima4_call::is_block;
 use ima4_call::is_run;
 use ima4_call::refuse;
 use ima4_header::header_of;
 use ima4_header::lowered_state;
-use num::pack;
 ghost use mathlib.Core.Path.{_≡_};
 ghost use Rattle.num.specs.Outcome.{outcome};
 ghost use Rattle.adpcm_ima.specs.View.{stateOf};

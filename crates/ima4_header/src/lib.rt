@@ -2,11 +2,11 @@
 mod rule;
 
 use adpcm_ima::AdpcmImaState;
-use num::bits_of;
-use num::from_halves;
-use num::high_half;
+use halves::bits_of;
+use halves::from_halves;
+use halves::high_half;
+use halves::low_half;
 use num::lesser;
-use num::low_half;
 use rule::keeps;
 ghost use mathlib.Core.Path.{_≡_};
 ghost use mathlib.Core.List.{[], _∷_};

@@ -1,15 +1,12 @@
 -- How large what a step hands back is. Assumes nothing.
 use mathlib.Core.Path.{_≡_, refl}
 use mathlib.Core.List.{List}
-use Prim.Native.Nat.{ℕ, _-_, _%_, _≤_, _<_}
+use Prim.Native.Nat.{ℕ, _%_, _≤_, _<_}
 use native.Mathlib.Omega.{arith}
-use lib.Dec.{ltb, le→leb}
+use lib.Dec.{le→leb}
 use lib.IntN.{ℤ, pos, negsuc, natAbs, _+ℤ_, _-ℤ_}
 use mir.Syntax.{w16}
 use mir.Val.{SFits}
-use borrow.Author.Tests.{ltb-true, ltb-false}
-use borrow.Table.Steps.{cases}
-use Rattle.num.specs.Halves.{fromBits}
 use Rattle.num.proofs.Within.{clamp-le}
 use Rattle.ima_nibble.specs.Step.{State, Limits, sixteen, In, lowered, sign, nibbleOf, move, indexed, stepped, narrow}
 use Rattle.ima_nibble.proofs.Parts.{greedy-lt}
@@ -47,10 +44,3 @@ narrow-is steps st v = narrow-below (stepped sixteen steps st v) (moved-lt steps
 pub fits-in : (x : ℤ) → SFits w16 x → In sixteen x
 fits-in (pos n) f = record { above = record { le = tt }; below = record { le = le→leb n 32767 (omega (arith, f .sfits)) } }
 fits-in (negsuc n) f = record { above = record { le = le→leb n 32767 (omega (arith, f .sfits)) }; below = record { le = tt } }
-
--- So is what any bits are read as.
-pub bits-in : (n : ℕ) → In sixteen (fromBits n)
-bits-in n =
-    cases (ltb n 32768)
-    (λ t. rw t (record { above = record { le = tt }; below = record { le = le→leb n 32767 (omega (arith, ltb-true n 32768 t)) } }))
-    (λ t. rw t (record { above = record { le = le→leb (65535 - n) 32767 (omega (arith, ltb-false n 32768 t)) }; below = record { le = tt } }))

@@ -12,7 +12,7 @@ use lib.Seq.{ext-getD}
 use borrow.Author.Tests.{ltb-true, ltb-false, lt-ltb}
 use borrow.Table.Steps.{cases}
 use Rattle.num.specs.Lists.{from}
-use Rattle.num.proofs.Halves.{halves-back}
+use Rattle.halves.proofs.Halves.{halves-back}
 use Rattle.num.proofs.Lists.{all-at, all-from, table, length-from}
 use Rattle.ima_nibble.specs.Step.{State, state, sixteen, In}
 use Rattle.ima_nibble.specs.Table.{imaSteps}

@@ -2,7 +2,7 @@
 use mathlib.Core.List.{List, [], _∷_}
 use Prim.Native.Nat.{ℕ, _/_, _%_}
 use lib.ListN.{getD}
-use Rattle.num.specs.Halves.{bitsOf, fromHalves}
+use Rattle.halves.specs.Halves.{bitsOf, fromHalves}
 use Rattle.ima_nibble.specs.Step.{State, state, sixteen, lowered}
 
 -- Per channel a header of four bytes: predictor little-endian, index, one byte ignored on reading and written 0.

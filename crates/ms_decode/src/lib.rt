@@ -1,12 +1,12 @@
 // An MS block to samples. Each channel starts from its header, so no state goes in or comes back.
 use adpcm_ima::IMA_STEP_TABLE;
+use halves::high_nibble;
+use halves::low_nibble;
 use ima_step::Wide;
 use ms_layout::MOST;
 use ms_layout::head;
 use ms_layout::refusal;
-use num::high_nibble;
 use num::lesser;
-use num::low_nibble;
 ghost use mathlib.Core.Path.{_≡_};
 ghost use mathlib.Core.List.{map};
 ghost use lib.ListN.{length};

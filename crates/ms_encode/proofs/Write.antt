@@ -9,7 +9,7 @@ use lib.ListN.{length, getD, set, take, drop, length-drop, length-set}
 use lib.Seq.{getD-set-same, getD-set-other, set-set, take-all}
 use borrow.Author.Tests.{eqb-true, eqb-false, ltb-true, ltb-false}
 use borrow.Table.Steps.{cases}
-use Rattle.num.specs.Halves.{bitsOf}
+use Rattle.halves.specs.Halves.{bitsOf}
 use Rattle.num.proofs.Lists.{as-far, as-long}
 use Rattle.ima_nibble.specs.Step.{State, state, sixteen}
 use Rattle.ima_nibble.specs.Table.{imaSteps}

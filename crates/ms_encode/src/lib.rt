@@ -1,13 +1,13 @@
 // Samples to an MS block. The states go in by value, and come back in one array.
 use adpcm_ima::AdpcmImaState;
 use adpcm_ima::IMA_STEP_TABLE;
+use halves::bits_of;
+use halves::high_half;
+use halves::low_half;
+use halves::pack;
 use ms_layout::MOST;
 use ms_layout::refusal;
-use num::bits_of;
-use num::high_half;
 use num::lesser;
-use num::low_half;
-use num::pack;
 ghost use mathlib.Core.Path.{_≡_};
 ghost use mathlib.Core.List.{map};
 ghost use Prim.Native.Nat.{_*_};

@@ -1,6 +1,6 @@
 // How an MS block is laid out: the channel numbers and lengths that a call takes, and the header of a channel.
 use adpcm_ima::AdpcmImaState;
-use num::from_halves;
+use halves::from_halves;
 use num::lesser;
 use num::monus;
 ghost use mathlib.Core.Path.{_≡_};

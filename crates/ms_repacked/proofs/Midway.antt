@@ -9,7 +9,7 @@ use lib.ListN.{length, getD, set, length-set}
 use lib.Seq.{ext-getD, getD-set-same, getD-set-other}
 use borrow.Author.Tests.{eqb-true, eqb-false}
 use borrow.Table.Steps.{cases}
-use Rattle.num.specs.Halves.{bitsOf}
+use Rattle.halves.specs.Halves.{bitsOf}
 use Rattle.ima_nibble.specs.Step.{State}
 use Rattle.ima_nibble.specs.Series.{decoded, encoded, nibblesOf}
 use Rattle.ms_block.specs.Header.{headOf}

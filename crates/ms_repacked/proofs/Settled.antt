@@ -6,11 +6,11 @@ use Prim.Native.Nat.{ℕ, _+_, _*_, _≤_, _<_}
 use native.Mathlib.Omega.{arith}
 use lib.IntN.{ℤ, pos}
 use lib.ListN.{length, getD, drop}
-use Rattle.num.proofs.Halves.{halves-back}
+use Rattle.halves.proofs.Halves.{halves-back, bits-fit}
 use Rattle.ima_nibble.specs.Step.{State, state, sixteen, In, lowered}
 use Rattle.ima_nibble.specs.Table.{imaSteps}
 use Rattle.ima_nibble.specs.Series.{Within, predictors, nibblesOf, packed}
-use Rattle.ima_nibble.proofs.Bounds.{bits-in}
+use Rattle.ima_nibble.proofs.Bounds.{fits-in}
 use Rattle.ima_nibble.proofs.Rising.{step-within}
 use Rattle.ima_nibble.proofs.Series.{decoded-within as nibbles-within, encodes-again}
 use Rattle.ms_block.specs.Header.{msHeader, headOf}
@@ -31,7 +31,7 @@ again own = encodedChannel (headOf own) (decodedChannel own) .written
 -- A header is within the limits whatever its bytes, and so are the samples behind it.
 pub head-in : (own : List ℕ) → In sixteen (headOf own .predictor)
 unfolding headOf
-head-in own = bits-in (getD own 1 0 * 256 + getD own 0 0)
+head-in own = fits-in _ (bits-fit (getD own 1 0 * 256 + getD own 0 0))
 
 pub head-held : (own : List ℕ) → headOf own .index ≤ 88
 unfolding headOf

@@ -2,14 +2,14 @@
 // with a state that reads and one that writes, so that no samples are kept.
 use adpcm_ima::AdpcmImaState;
 use adpcm_ima::IMA_STEP_TABLE;
+use halves::bits_of;
+use halves::high_half;
+use halves::high_nibble;
+use halves::low_half;
+use halves::low_nibble;
+use halves::pack;
 use ms_layout::head;
 use ms_layout::repack_refusal;
-use num::bits_of;
-use num::high_half;
-use num::high_nibble;
-use num::low_half;
-use num::low_nibble;
-use num::pack;
 ghost use mathlib.Core.Path.{_≡_};
 ghost use Prim.Native.Nat.{_+_, _<_};
 ghost use lib.ListN.{length};

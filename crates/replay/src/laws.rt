@@ -5,7 +5,7 @@ use g711::decode_alaw;
 use g711::decode_ulaw;
 use g711::encode_alaw;
 use g711::encode_ulaw;
-use num::from_halves;
+use halves::from_halves;
 ghost use mathlib.Core.Path.{_≡_};
 ghost use Prim.Native.Nat.{_<_};
 ghost use lib.ListN.{length};

@@ -2,7 +2,7 @@
 use crate::answer::Answer;
 use crate::answer::unknown_call;
 use crate::state::state_at;
-use num::from_halves;
+use halves::from_halves;
 ghost use mathlib.Core.Path.{_≡_};
 ghost use Prim.Native.Nat.{_<_};
 ghost use lib.ListN.{length};

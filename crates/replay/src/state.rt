@@ -1,6 +1,6 @@
 // A state in a line: its predictor, high byte first, and its index.
 use adpcm_ima::AdpcmImaState;
-use num::from_halves;
+use halves::from_halves;
 ghost use Prim.Native.Nat.{_+_, _<_};
 ghost use lib.ListN.{length};
 

@@ -45,18 +45,13 @@ fn lending<T, U>(
     call: impl Fn(T, *mut State) -> U,
 ) -> After<U> {
     const { assert!(size_of::<State>() == 4 && align_of::<State>() <= 4) };
-    let mut words = [NEIGHBOUR; 3];
+    // The state is stored as one word and loaded one number at a time: a load of what several stores wrote would wait.
+    let [first, second] = predictor.to_ne_bytes();
+    let word = u32::from_ne_bytes([first, second, step_index, 0]);
+    let mut words = [NEIGHBOUR, word, NEIGHBOUR];
     let state: *mut State = words.as_mut_ptr().wrapping_add(1).cast();
-    // SAFETY: a word has room for a state.
-    unsafe {
-        state.write(State {
-            predictor,
-            step_index,
-        })
-    };
     let answer = call(input, state);
-    // SAFETY: as above, and both numbers are set. (They are read one by one, as they are written: a load of both at once
-    // would wait for the two stores.)
+    // SAFETY: a word has room for a state, and both of its numbers are set.
     let (predictor, step_index) = unsafe { ((*state).predictor, (*state).step_index) };
     assert!(
         words[0] == NEIGHBOUR && words[2] == NEIGHBOUR,

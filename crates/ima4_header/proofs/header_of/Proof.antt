@@ -7,7 +7,7 @@ use mir.Syntax.{w16}
 use mir.Val.{SFits}
 use mir.ValLaws.{toZ-ofZ}
 use borrow.Author.Needs.{needs}
-use Rattle.num.specs.Halves.{bitsOf}
+use Rattle.halves.specs.Halves.{bitsOf}
 use Rattle.ima4_header.proofs.header_of.Statement.{statement}
 use Rattle.ima4_header.proofs.header_of.Tie as tie
 

@@ -6,7 +6,7 @@ use mir.Syntax.{w16}
 use mir.Val.{SFits}
 use mir.ValLaws.{toZ-ofZ}
 use borrow.Author.Needs.{needs}
-use Rattle.num.specs.Halves.{fromBits}
+use Rattle.halves.specs.Halves.{fromBits}
 use Rattle.ima_nibble.specs.Step.{state}
 use Rattle.adpcm_ima.specs.View.{stateOf}
 use Rattle.ima4_block.specs.Header.{headerState, keeps, startState}

@@ -9,7 +9,7 @@ use mir.Syntax.{w16}
 use mir.Val.{SFits}
 use mir.ValLaws.{toZ-ofZ}
 use borrow.Author.Needs.{needs}
-use Rattle.num.specs.Halves.{bitsOf}
+use Rattle.halves.specs.Halves.{bitsOf}
 use Rattle.num.proofs.Lists.{map-set}
 use Rattle.ima_nibble.specs.Step.{State, state}
 use Rattle.adpcm_ima.specs.declared.AdpcmImaState.{AdpcmImaState}

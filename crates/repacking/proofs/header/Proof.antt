@@ -7,7 +7,7 @@ use mir.Syntax.{w16}
 use mir.Val.{SFits}
 use mir.ValLaws.{toZ-ofZ}
 use borrow.Author.Needs.{needs}
-use Rattle.num.specs.Halves.{bitsOf}
+use Rattle.halves.specs.Halves.{bitsOf}
 use Rattle.adpcm_ima.specs.declared.AdpcmImaState.{AdpcmImaState}
 use Rattle.adpcm_ima.specs.View.{stateOf}
 use Rattle.ms_block.specs.Sizes.{samplesOf}

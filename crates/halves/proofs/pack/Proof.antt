@@ -1,10 +1,10 @@
--- `num::pack` meets its contract: four bits shifted by four, and four below them. Assumes nothing.
+-- `halves::pack` meets its contract: four bits shifted by four, and four below them. Assumes nothing.
 use mathlib.Core.Path.{_≡_}
 use Prim.Native.Nat.{ℕ, _+_, _*_, _%_}
 use native.Mathlib.Omega.{arith}
 use lib.Bits.{bitAnd, bitOr, and-mask, or-shifted}
-use Rattle.num.proofs.pack.Statement.{statement}
-use Rattle.num.proofs.pack.Tie as tie
+use Rattle.halves.proofs.pack.Statement.{statement}
+use Rattle.halves.proofs.pack.Tie as tie
 
 joined : (low high : ℕ) → bitOr (bitAnd high 15 * 16 % 4294967296) (bitAnd low 15) ≡ 16 * (high % 16) + low % 16
 joined low high =

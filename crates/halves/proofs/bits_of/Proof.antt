@@ -1,4 +1,4 @@
--- `num::bits_of` meets its contract: its test asks for the number's sign. Assumes nothing.
+-- `halves::bits_of` meets its contract: its test asks for the number's sign. Assumes nothing.
 use mathlib.Core.Path.{_≡_, refl, ap, _∙_}
 use mathlib.Core.Bool.{true, false}
 use Prim.Native.Nat.{ℕ, _-_, _<_}
@@ -8,10 +8,10 @@ use lib.Signed.{mag, ltZ}
 use mir.Syntax.{w16}
 use mir.ValLaws.{toZ-ofZ}
 use borrow.Author.Needs.{needs}
-use Rattle.num.specs.Halves.{bitsOf}
+use Rattle.halves.specs.Halves.{bitsOf}
 use Rattle.num.proofs.Signed.{negative, positive, signed}
-use Rattle.num.proofs.bits_of.Statement.{statement}
-use Rattle.num.proofs.bits_of.Tie as tie
+use Rattle.halves.proofs.bits_of.Statement.{statement}
+use Rattle.halves.proofs.bits_of.Tie as tie
 
 below : (x : ℤ) → ltZ x (pos 0) ≡ true → 65535 - mag x ≡ bitsOf x
 below x t = rw (negative x t) refl

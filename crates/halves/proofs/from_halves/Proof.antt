@@ -1,4 +1,4 @@
--- `num::from_halves` meets its contract: each arm is the case of the definition that its test says. Assumes nothing.
+-- `halves::from_halves` meets its contract: each arm is the case of the definition that its test says. Assumes nothing.
 use mathlib.Core.Path.{_≡_, refl, _∙_}
 use Prim.Native.Nat.{ℕ, _+_, _-_, _*_, _<_}
 use native.Mathlib.Omega.{arith}
@@ -8,9 +8,9 @@ use mir.Val.{SFits, toZ}
 use mir.ValLaws.{toZ-ofZ, toZ-pos}
 use borrow.Author.Needs.{needs}
 use borrow.Author.Tests.{lt-ltb, le-ltb}
 use Rattle.num.proofs.Signed.{minus-one}
-use Rattle.num.proofs.from_halves.Statement.{statement}
-use Rattle.num.proofs.from_halves.Tie as tie
+use Rattle.halves.proofs.from_halves.Statement.{statement}
+use Rattle.halves.proofs.from_halves.Tie as tie
 
 -- the bits of a number of 16 bits: those below 32768 are the number, and the others -1 less their complement
 low : (n : ℕ) → n < 32768 → toZ w16 n ≡ pos n
