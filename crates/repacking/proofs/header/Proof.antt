@@ -24,9 +24,12 @@ is c = let a = c .args in let n = length (a .block .now) in shape (a .c) n (samp
 room : (c : tie.Start) → (4 * c .args .ch + 4 ≤ length (c .args .block .now)) × (length (c .args .block .now) ≤ 65535) × (length (c .args .out .now) ≡ length (c .args .block .now))
 room c = (fourth (c .args .block .now) (is c) (c .args .ch) (c .pre .1), is c .short, c .pre .0 .1)
 
--- the arguments, from behind the bits
+-- the arguments, from where the first byte is read, and from behind the bits
+abbrev begin : tie.After-shared-slice-known2 → tie.Start
+begin c = c .before .before .before
+
 abbrev start : tie.After-bits-of → tie.Start
-start c = c .before .before .before .before .before .before .before .before
+start c = let last-read = c .before .before .before in begin (last-read .before .before)
 
 -- the second byte of the header is the upper half of the bits
 high-is : (c : tie.After-high-half) → c .high-half .result ≡ c .before .before .bits-of .result / 256
@@ -40,19 +43,19 @@ mul-at : tie.Need-mul-at
 mul-at c = omega (arith, room (c .before .before))
 
 shared-slice-read-head : tie.Need-shared-slice-read-head
-shared-slice-read-head c = omega (arith, room (c .before .before .before))
+shared-slice-read-head c = omega (arith, room (begin c))
 
 add-head : tie.Need-add-head
-add-head c = omega (arith, room (c .before .before .before))
+add-head c = omega (arith, room (begin c))
 
 shared-slice-read-head-2 : tie.Need-shared-slice-read-head-2
-shared-slice-read-head-2 c = let s = c .before .before .before .before in omega (arith, room s)
+shared-slice-read-head-2 c = omega (arith, room (begin (c .before)))
 
 add-head-2 : tie.Need-add-head-2
-add-head-2 c = let s = c .before .before .before .before in omega (arith, room s)
+add-head-2 c = omega (arith, room (begin (c .before)))
 
 shared-slice-read-head-3 : tie.Need-shared-slice-read-head-3
-shared-slice-read-head-3 c = let s = c .before .before .before .before .before in omega (arith, room s)
+shared-slice-read-head-3 c = omega (arith, room (begin (c .before .before)))
 
 slice-write-out : tie.Need-slice-write-out
 slice-write-out c = omega (arith, room (start (c .before)))
