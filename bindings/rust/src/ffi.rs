@@ -28,6 +28,33 @@ mod c {
             bytes: *mut u8,
             bytes_len: usize,
         ) -> u8;
+        pub fn spr_ima4_index(
+            bytes: *const u8,
+            bytes_len: usize,
+            every: u8,
+            predictor: *mut i16,
+            step_index: *mut u8,
+            record: *mut u8,
+            record_len: usize,
+        ) -> u8;
+        pub fn spr_ima4_reindex(
+            bytes: *const u8,
+            bytes_len: usize,
+            from: usize,
+            record: *mut u8,
+            record_len: usize,
+        ) -> u8;
+        pub fn spr_decode_ima4_from(
+            bytes: *const u8,
+            bytes_len: usize,
+            record: *const u8,
+            record_len: usize,
+            from: usize,
+            predictor: *mut i16,
+            step_index: *mut u8,
+            samples: *mut i16,
+            samples_len: usize,
+        ) -> u8;
         pub fn spr_decode_ms(
             channels: u8,
             block: *const u8,
@@ -129,6 +156,54 @@ pub fn encode_ima4(
     let (len, bytes_len) = (samples.len(), bytes.len());
     let (samples, bytes) = (samples.as_ptr(), bytes.as_mut_ptr());
     unsafe { c::spr_encode_ima4(samples, len, predictor, step_index, bytes, bytes_len) }
+}
+
+// SAFETY of a seek index: as of ima4. A record may hold anything.
+
+#[inline(always)]
+pub fn ima4_index(
+    bytes: &[u8],
+    every: u8,
+    predictor: &mut i16,
+    step_index: &mut u8,
+    record: &mut [u8],
+) -> u8 {
+    let (len, record_len) = (bytes.len(), record.len());
+    let (bytes, record) = (bytes.as_ptr(), record.as_mut_ptr());
+    unsafe { c::spr_ima4_index(bytes, len, every, predictor, step_index, record, record_len) }
+}
+
+#[inline(always)]
+pub fn ima4_reindex(bytes: &[u8], from: usize, record: &mut [u8]) -> u8 {
+    let (len, record_len) = (bytes.len(), record.len());
+    let (bytes, record) = (bytes.as_ptr(), record.as_mut_ptr());
+    unsafe { c::spr_ima4_reindex(bytes, len, from, record, record_len) }
+}
+
+#[inline(always)]
+pub fn decode_ima4_from(
+    bytes: &[u8],
+    record: &[u8],
+    from: usize,
+    predictor: &mut i16,
+    step_index: &mut u8,
+    samples: &mut [i16],
+) -> u8 {
+    let (len, record_len, samples_len) = (bytes.len(), record.len(), samples.len());
+    let (bytes, record, samples) = (bytes.as_ptr(), record.as_ptr(), samples.as_mut_ptr());
+    unsafe {
+        c::spr_decode_ima4_from(
+            bytes,
+            len,
+            record,
+            record_len,
+            from,
+            predictor,
+            step_index,
+            samples,
+            samples_len,
+        )
+    }
 }
 
 // SAFETY of MS blocks: as of ima4. Each of the encoder's two pointers to states is to two numbers, of one
