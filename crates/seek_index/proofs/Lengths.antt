@@ -1,0 +1,69 @@
+-- What the numbers of the three calls say where they are 0. Assumes nothing.
+use mathlib.Core.Path.{_≡_, refl, sym, _∙_}
+use mathlib.Core.Bool.{Bool, true, false, cond, _&&_, and-eq-true-iff, and-false}
+use mathlib.Core.List.{List}
+use Prim.Native.Nat.{ℕ, _-_, _*_, _/_, _≤_, _<_}
+use native.Mathlib.Omega.{arith}
+use lib.Dec.{eqb, ltb, leb}
+use lib.ListN.{length}
+use borrow.Author.Tests.{eqb-true, leb-true, ltb-true, ne-eqb}
+use Rattle.seek_index.specs.Record.{restLength, versionIn, restIn, everyIn}
+use Rattle.seek_index.specs.Call.{areRun, isEvery, indexLength, indexRefusal, isIndex, placeRefusal, fromRefusal}
+
+-- both tests passed
+tested : (a b : Bool) → _≡_ {A = ℕ} (cond a (cond b 0 5) 3) 0 → (a ≡ true) × (b ≡ true)
+tested true true t = (refl, refl)
+tested true false t = absurd (omega (arith, t))
+tested false b t = absurd (omega (arith, t))
+
+pub run-are : (bytes : ℕ) → areRun bytes ≡ true → (bytes / 34 ≤ 1024) × (bytes ≡ 34 * (bytes / 34))
+run-are bytes t =
+    let (few, are) = and-eq-true-iff (leb (bytes / 34) 1024) (eqb bytes (34 * (bytes / 34))) .0 t in
+    (leb-true (bytes / 34) 1024 few, eqb-true bytes (34 * (bytes / 34)) are)
+
+pub every-is : (k : ℕ) → isEvery k ≡ true → (1 ≤ k) × (k ≤ 64)
+every-is k t = let (some, few) = and-eq-true-iff (leb 1 k) (leb k 64) .0 t in (leb-true 1 k some, leb-true k 64 few)
+
+pub index-taken : (bytes k size : ℕ) → indexRefusal bytes k size ≡ 0 → let n = bytes / 34 in (n ≤ 1024) × (bytes ≡ 34 * n) × (1 ≤ k) × (k ≤ 64) × (size ≡ indexLength k n)
+index-taken bytes k size t =
+    let n = bytes / 34 in
+    let is = eqb size (indexLength k n) in
+    let (run, fits) = tested (areRun bytes) (isEvery k && is) t in
+    let (every, sized) = and-eq-true-iff (isEvery k) is .0 fits in
+    let (few, whole) = run-are bytes run in
+    let (some, most) = every-is k every in
+    (few, whole, some, most, eqb-true size (indexLength k n) sized)
+
+pub index-is : (n : ℕ) (index : List ℕ) → isIndex n index ≡ true → let k = everyIn index in (1 ≤ k) × (k ≤ 64) × (length index ≡ indexLength k n)
+index-is n index t =
+    let k = everyIn index in
+    let version = eqb (versionIn index) 1 in
+    let sized = eqb (length index) (indexLength k n) in
+    let (three, rest) = and-eq-true-iff (version && isEvery k && sized) (eqb (restIn index) (restLength k n)) .0 t in
+    let (two, l) = and-eq-true-iff (version && isEvery k) sized .0 three in
+    let (some, most) = every-is k (and-eq-true-iff version (isEvery k) .0 two .1) in
+    (some, most, eqb-true (length index) (indexLength k n) l)
+
+-- a record below four bytes
+pub no-index : (n : ℕ) (index : List ℕ) → length index < 4 → isIndex n index ≡ false
+no-index n index h =
+    let k = everyIn index in
+    let two = eqb (versionIn index) 1 && isEvery k in
+    rw (ne-eqb (length index) (indexLength k n) (λ e. omega (arith, h, e)), and-false two) refl
+
+pub place-taken : (bytes : ℕ) (index : List ℕ) (j : ℕ) → placeRefusal bytes index j ≡ 0
+    → let n = bytes / 34 in let k = everyIn index in (n ≤ 1024) × (bytes ≡ 34 * n) × (1 ≤ k) × (k ≤ 64) × (length index ≡ indexLength k n) × (j < n)
+place-taken bytes index j t =
+    let n = bytes / 34 in
+    let (run, fits) = tested (areRun bytes) (isIndex n index && ltb j n) t in
+    let (is, before) = and-eq-true-iff (isIndex n index) (ltb j n) .0 fits in
+    let (few, whole) = run-are bytes run in
+    let (some, most, sized) = index-is n index is in
+    (few, whole, some, most, sized, ltb-true j n before)
+
+-- the number of a call that is not done for its samples alone
+pub from-taken : (bytes : ℕ) (index : List ℕ) (j samples : ℕ) → placeRefusal bytes index j ≡ 0 → fromRefusal bytes index j samples ≡ cond (eqb samples (64 * (bytes / 34 - j))) 0 3
+from-taken bytes index j samples t = rw t refl
+
+pub from-refused : (bytes : ℕ) (index : List ℕ) (j samples : ℕ) → (placeRefusal bytes index j ≡ 0 → ⊥) → fromRefusal bytes index j samples ≡ placeRefusal bytes index j
+from-refused bytes index j samples refused = rw (ne-eqb (placeRefusal bytes index j) 0 refused) refl
