@@ -28,7 +28,7 @@ module _ (n : ℕ) (small : n ≤ 1024) where
       let z : bytes / 34 ≡ n = omega arith in
       rw (z, le-leb n 1024 small, eq-eqb bytes (34 * n) e, eq-eqb samples (64 * n) h)
 
-  decode-fits : (st : State) (bytes : List ℕ) (out : List ℤ) → length bytes ≡ 34 * n → length out ≡ 64 * n
+  pub decode-fits : (st : State) (bytes : List ℕ) (out : List ℤ) → length bytes ≡ 34 * n → length out ≡ 64 * n
       → decodeIma4Run st bytes out ≡ finished (run decodedIma4Block 34 n st bytes)
   unfolding decodeIma4Run
   decode-fits st bytes out e h = fits (length bytes) (length out) e h (λ k. run decodedIma4Block 34 k st bytes) st out

@@ -1,2 +1,6 @@
+pub mod Before
+pub mod Bytes
 pub mod Kept
 pub mod Lengths
+pub mod Listed
+pub mod Theorems

@@ -1,0 +1,187 @@
+-- A seek index is as long as it says, its states are read back, and what is decoded or rebuilt by way of it is what whole decoding or a fresh build gives. Assumes nothing.
+use mathlib.Core.Path.{_≡_, refl, sym, ap, ap₂, _∙_, subst}
+use mathlib.Core.Bool.{true}
+use mathlib.Core.List.{List, [], _∷_, _++_, append-assoc}
+use Prim.Native.Nat.{ℕ, suc, _+_, _-_, _*_, _/_, _%_, _≤_, _<_}
+use native.Mathlib.Nat.{mul-div-le, mul-le-mul-left, div-eq-of-lt, zero-div}
+use native.Mathlib.Omega.{arith}
+use lib.Dec.{eqb}
+use lib.IntN.{ℤ}
+use lib.ListN.{length, getD, take, drop, length-append}
+use lib.Seq.{take-at, drop-at, length-take-le}
+use borrow.Author.Tests.{le-leb, lt-ltb, eq-eqb}
+use Rattle.num.specs.Lists.{from}
+use Rattle.num.specs.Outcome.{outcome}
+use Rattle.num.proofs.Lists.{length-from, getD-from}
+use Rattle.num.proofs.Outcome.{number-is}
+use Rattle.ima_nibble.specs.Step.{State, sixteen, In}
+use Rattle.ima_nibble.specs.Series.{Done, after}
+use Rattle.ima4_block.specs.Block.{decodedIma4Block}
+use Rattle.ima4_block.specs.Run.{run}
+use Rattle.ima4_block.specs.Call.{finished, decodedRun, decodeIma4Run}
+use Rattle.ima4_block.proofs.Cut.{continued}
+use Rattle.ima4_block.proofs.Theorems.{decode-fits}
+use Rattle.seek_index.specs.Record.{stateBefore, statesKept, stateBytes, restLength, recordHead, seekIndex, restIn, everyIn, stateIn, reached, rebuilt}
+use Rattle.seek_index.specs.Call.{areRun, indexLength, isIndex, indexRefusal, placeRefusal, fromRefusal, indexIma4, decodedFrom, decodeIma4From, reindexIma4}
+use Rattle.seek_index.proofs.Before.{onward, same-before, samples-before, before-in}
+use Rattle.seek_index.proofs.Bytes.{bytes-length, bytes-append, state-back}
+use Rattle.seek_index.proofs.Kept.{kept-at}
+use Rattle.seek_index.proofs.Lengths.{index-taken, from-taken}
+use Rattle.seek_index.proofs.Listed.{in-two, alike}
+
+-- the states that are kept of a run, as a rule
+abbrev keptOf : ℕ → State → List ℕ → ℕ → State
+keptOf k st bytes i = stateBefore st bytes (k * i)
+
+-- ---- the record
+
+-- Two bytes big-endian length of the rest.
+pub index-length : (k n : ℕ) (st : State) (bytes : List ℕ) → length (seekIndex k n st bytes) ≡ indexLength k n
+unfolding seekIndex
+index-length k n st bytes =
+    let sts = from (statesKept k n) 0 (keptOf k st bytes) in
+    omega (arith, bytes-length sts, length-from (keptOf k st bytes) (statesKept k n) 0)
+
+pub rest-length : (k n : ℕ) (st : State) (bytes : List ℕ) → restIn (seekIndex k n st bytes) ≡ length (drop 2 (seekIndex k n st bytes))
+unfolding seekIndex
+rest-length k n st bytes = omega (arith, index-length k n st bytes)
+
+-- None for an empty run.
+pub empty : (k : ℕ) → 1 ≤ k → (st : State) (bytes : List ℕ) → seekIndex k 0 st bytes ≡ 0 ∷ 2 ∷ 1 ∷ k ∷ []
+unfolding seekIndex from stateBytes
+empty k some st bytes =
+    let none : statesKept k 0 ≡ 0 = div-eq-of-lt (omega arith) in
+    rw none refl
+
+-- It is one that the calls take.
+is-index : (k : ℕ) → 1 ≤ k → k ≤ 64 → (n : ℕ) (st : State) (bytes : List ℕ) → isIndex n (seekIndex k n st bytes) ≡ true
+unfolding seekIndex
+is-index k some most n st bytes =
+    let rest : restIn (seekIndex k n st bytes) ≡ restLength k n = omega arith in
+    rw (le-leb 1 k some, le-leb k 64 most, eq-eqb (length (seekIndex k n st bytes)) (indexLength k n) (index-length k n st bytes), eq-eqb (restIn (seekIndex k n st bytes)) (restLength k n) rest)
+    refl
+
+module _ (k : ℕ) (some : 1 ≤ k) (n : ℕ) (st : State) (inside : In sixteen (st .predictor)) (bytes : List ℕ) where
+  pub read-back : (i : ℕ) → i < statesKept k n → stateIn (seekIndex k n st bytes) i ≡ stateBefore st bytes (k * i)
+  unfolding seekIndex
+  read-back i h =
+      let m = statesKept k n in
+      let sts = from m 0 (keptOf k st bytes) in
+      let none : 0 + i ≡ i = omega arith in
+      let is = getD-from (keptOf k st bytes) m 0 i st h ∙ ap (keptOf k st bytes) none in
+      let fits : In sixteen (getD sts i st .predictor) = rw is (before-in (k * i) st bytes inside) in
+      state-back (recordHead k n) refl sts i st (omega (arith, length-from (keptOf k st bytes) m 0)) fits ∙ is
+
+  every-back : everyIn (seekIndex k n st bytes) ≡ k
+  unfolding seekIndex
+  every-back = refl
+
+  -- The first is the start state with its index raw, even above 88.
+  pub first-raw : 1 ≤ n → stateIn (seekIndex k n st bytes) 0 ≡ st
+  unfolding run
+  first-raw h =
+      let none : k * 0 ≡ 0 = omega arith in
+      read-back 0 (subst (λ (q : ℕ). q < statesKept k n) (zero-div k) (kept-at k some n 0 h)) ∙ ap (stateBefore st bytes) none
+
+  -- by way of it, in bytes that start alike
+  reaches : (new : List ℕ) (j : ℕ) → j < n → stateBefore st bytes (k * (j / k)) ≡ stateBefore st new (k * (j / k))
+      → (b : ℕ) → k * (j / k) ≤ b → reached (seekIndex k n st bytes) new j b ≡ stateBefore st new b
+  unfolding reached
+  reaches new j h same b le =
+      let i = j / k in
+      let kept = read-back i (kept-at k some n j h) ∙ same in
+      ap (λ (e : ℕ). stateBefore (stateIn (seekIndex k n st bytes) (j / e)) (drop (34 * (e * (j / e))) new) (b - e * (j / e))) every-back
+      ∙ ap (λ (s : State). stateBefore s (drop (34 * (k * i)) new) (b - k * i)) kept
+      ∙ onward st new (k * i) b le
+
+  seeks : (j : ℕ) → j < n → decodedRun n st bytes ≡ after (decodedRun j st bytes .written) (decodedFrom n (seekIndex k n st bytes) bytes j)
+  seeks j h =
+      let e : n ≡ j + (n - j) = omega arith in
+      rw (reaches bytes j h refl j (mul-div-le j k)) (ap (λ (m : ℕ). decodedRun m st bytes) e ∙ continued decodedIma4Block 34 j (n - j) st bytes)
+
+module _ (k : ℕ) (some : 1 ≤ k) (n : ℕ) (st : State) (inside : In sixteen (st .predictor)) (old new : List ℕ) (j : ℕ) (h : j < n)
+    (same : (b : ℕ) → b ≤ j → stateBefore st old b ≡ stateBefore st new b) where
+  -- as many states as stand at or before block j
+  abbrev i : ℕ
+  i = suc (j / k)
+
+  abbrev m : ℕ
+  m = statesKept k n
+
+  in-parts : (bytes : List ℕ) → seekIndex k n st bytes ≡ (recordHead k n ++ stateBytes (from i 0 (keptOf k st bytes))) ++ stateBytes (from (m - i) i (keptOf k st bytes))
+  unfolding seekIndex
+  in-parts bytes =
+      let xs = from i 0 (keptOf k st bytes) in
+      let ys = from (m - i) i (keptOf k st bytes) in
+      ap (λ (sts : List State). recordHead k n ++ stateBytes sts) (in-two (keptOf k st bytes) i m (kept-at k some n j h))
+      ∙ ap (λ (bs : List ℕ). recordHead k n ++ bs) (bytes-append xs ys)
+      ∙ sym (append-assoc (recordHead k n) (stateBytes xs) (stateBytes ys))
+
+  stays : take (4 + 3 * i) (seekIndex k n st old) ≡ recordHead k n ++ stateBytes (from i 0 (keptOf k st new))
+  stays =
+      let xs = from i 0 (keptOf k st old) in
+      let ys = stateBytes (from (m - i) i (keptOf k st old)) in
+      let front = recordHead k n ++ stateBytes xs in
+      let long : length front ≡ 4 + 3 * i = omega (arith, bytes-length xs, length-from (keptOf k st old) i 0) in
+      ap (take (4 + 3 * i)) (in-parts old)
+      ∙ take-at front ys (4 + 3 * i) long
+      ∙ ap (λ (sts : List State). recordHead k n ++ stateBytes sts)
+      (alike (keptOf k st old) (keptOf k st new) i 0 (λ p l u. same (k * p) (omega (arith, mul-le-mul-left {m = p} {n = j / k} k (omega arith), mul-div-le j k))))
+
+  anew : from (m - i) i (λ e. reached (seekIndex k n st old) new j (k * e)) ≡ from (m - i) i (keptOf k st new)
+  anew =
+      alike (λ e. reached (seekIndex k n st old) new j (k * e)) (keptOf k st new) (m - i) i
+      (λ p l u. reaches k some n st inside old new j h (same (k * (j / k)) (mul-div-le j k)) (k * p) (mul-le-mul-left {m = j / k} {n = p} k (omega arith)))
+
+  rebuilds : rebuilt n (seekIndex k n st old) new j ≡ seekIndex k n st new
+  unfolding rebuilt seekIndex
+  rebuilds = ap₂ (λ (xs : List ℕ) (sts : List State). xs ++ stateBytes sts) stays anew ∙ sym (in-parts new)
+
+-- ---- the calls
+
+-- an index that is built for k and st, of `bytes`, into a buffer `record`
+module _ (st : State) (inside : In sixteen (st .predictor)) (bytes : List ℕ) (k : ℕ) (buffer : List ℕ) (done : indexIma4 st bytes k buffer .number ≡ 0) where
+  abbrev n : ℕ
+  n = length bytes / 34
+
+  taken : indexRefusal (length bytes) k (length buffer) ≡ 0
+  unfolding indexIma4
+  taken = sym (number-is (indexRefusal (length bytes) k (length buffer)) (stateBefore st bytes n, seekIndex k n st bytes) (st, buffer)) ∙ done
+
+  facts : (n ≤ 1024) × (length bytes ≡ 34 * n) × (1 ≤ k) × (k ≤ 64) × (length buffer ≡ indexLength k n)
+  facts = index-taken (length bytes) k (length buffer) taken
+
+  built : indexIma4 st bytes k buffer .buffer ≡ seekIndex k n st bytes
+  unfolding indexIma4
+  built = rw taken refl
+
+  -- It is taken with any bytes of as many blocks, at each of them.
+  place : (new : List ℕ) → length new ≡ length bytes → (j : ℕ) → j < n → placeRefusal (length new) (seekIndex k n st bytes) j ≡ 0
+  place new e j h =
+      let (few, whole, some, most, _) = facts in
+      let run : areRun (length bytes) ≡ true = rw (le-leb n 1024 few, eq-eqb (length bytes) (34 * n) whole) refl in
+      rw (e, run, is-index k some most n st bytes, lt-ltb j n h) refl
+
+  -- Decoding from block j to the end by way of an index built from that run and start gives the samples that whole decoding gives there, and its end state.
+  pub decodes-from : (given : State) (j : ℕ) (part whole : List ℤ) → j < n → length part ≡ 64 * (n - j) → length whole ≡ 64 * n
+      → let all = decodeIma4Run st bytes whole in
+      decodeIma4From given bytes (indexIma4 st bytes k buffer .buffer) j part ≡ outcome 0 (all .back) (drop (64 * j) (all .buffer))
+  unfolding decodeIma4From
+  decodes-from given j part whole h p w =
+      let (few, size, some, most, _) = facts in
+      let index = seekIndex k n st bytes in
+      let before = decodedRun j st bytes .written in
+      let r = decodedFrom n index bytes j in
+      let all = decode-fits n few st bytes whole size w ∙ ap finished (seeks k some n st inside bytes j h) in
+      let number = from-taken (length bytes) index j (length part) (place bytes refl j h) in
+      let there : drop (64 * j) (before ++ r .written) ≡ r .written = drop-at before (r .written) (64 * j) (samples-before st bytes j (omega (arith, size))) in
+      rw (built, number, eq-eqb (length part) (64 * (n - j)) p, all, there) refl
+
+  -- After blocks from j on are replaced one for one, rebuilding only the states after j equals a fresh build.
+  pub reindexes : (new : List ℕ) → length new ≡ length bytes → (j : ℕ) → j < n → take (34 * j) bytes ≡ take (34 * j) new
+      → reindexIma4 new j (indexIma4 st bytes k buffer .buffer) ≡ outcome 0 tt (indexIma4 st new k buffer .buffer)
+  unfolding reindexIma4 indexIma4
+  reindexes new e j h alike =
+      let (few, size, some, most, _) = facts in
+      let same = same-before st bytes new j (omega (arith, size)) (omega (arith, size, e)) alike in
+      rw (taken, place new e j h, e, taken) (ap (outcome 0 tt) (rebuilds k some n st inside bytes new j h same))
