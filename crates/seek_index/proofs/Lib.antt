@@ -4,3 +4,4 @@ pub mod Kept
 pub mod Lengths
 pub mod Listed
 pub mod Theorems
+pub mod Turn

@@ -15,6 +15,9 @@ stateBefore st bytes b = decodedRun b st bytes .end
 abbrev pub statesKept : ℕ → ℕ → ℕ
 statesKept k n = (n + (k - 1)) / k
 
+abbrev pub keptStates : ℕ → ℕ → State → List ℕ → List State
+keptStates k n st bytes = from (statesKept k n) 0 (λ i. stateBefore st bytes (k * i))
+
 -- Three bytes per kept state (predictor big-endian, index). The index is raw, even above 88.
 unfoldable pub stateBytes : List State → List ℕ
 stateBytes [] = []
@@ -29,7 +32,7 @@ recordHead k n = (restLength k n / 256) ∷ (restLength k n % 256) ∷ 1 ∷ k �
 
 -- then the states. The first is the start state.
 unfoldable pub seekIndex : ℕ → ℕ → State → List ℕ → List ℕ
-seekIndex k n st bytes = recordHead k n ++ stateBytes (from (statesKept k n) 0 (λ i. stateBefore st bytes (k * i)))
+seekIndex k n st bytes = recordHead k n ++ stateBytes (keptStates k n st bytes)
 
 -- ---- Read from any record, which is believed
 
