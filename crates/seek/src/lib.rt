@@ -12,23 +12,18 @@ use seek_index::from_refusal;
 use seek_index::index_refusal;
 use seek_index::place_refusal;
 ghost use mathlib.Core.Path.{_≡_};
-ghost use Prim.Native.Nat.{_+_, _*_, _/_, _≤_};
+ghost use Prim.Native.Nat.{_+_, _-_, _*_, _/_, _≤_, _<_};
 ghost use lib.IntN.{pos};
-ghost use lib.ListN.{length};
+ghost use lib.ListN.{length, take};
 ghost use Rattle.num.specs.Outcome.{outcome};
 ghost use Rattle.ima_nibble.specs.Step.{state};
 ghost use Rattle.adpcm_ima.specs.View.{stateOf};
 ghost use Rattle.seek_index.specs.Call.{indexIma4, decodeIma4From, reindexIma4};
 ghost use Rattle.seek_index.specs.Private.{Room};
-ghost use Rattle.seek_index.specs.Record.{stateBefore, keptStates, stateBytes, stateIn};
+ghost use Rattle.seek_index.specs.Record.{stateBefore, keptStates, stateBytes, recordHead, stateIn};
 
 // The index of a run from a start state. The state behind the run comes back.
-pub fn index_adpcm_ima_ima4(
-    buf: &[u8],
-    state: AdpcmImaState,
-    every: u8,
-    index: &mut [u8],
-) -> Answer
+pub fn index_adpcm_ima_ima4(buf: &[u8], state: AdpcmImaState, every: u8, index: &mut [u8]) -> Answer
     ensures { λ r. ⌜ outcome (r .refusal) (stateOf (r .state)) (now (index .exit)) ≡ indexIma4 (stateOf state) (now (buf .entry)) every (now (index .entry)) ⌝ }
 {
     let number = index_refusal(buf.len(), every, index.len());
@@ -38,11 +33,7 @@ pub fn index_adpcm_ima_ima4(
             state,
         };
     }
-    let rest = (index.len() - 2) as u32;
-    index[0] = high_half(rest);
-    index[1] = low_half(rest);
-    index[2] = 1;
-    index[3] = every;
+    put_head(index, every);
     let end = keep_states(buf, every as usize, state, &mut index[4..]);
     Answer {
         refusal: 0,
@@ -87,6 +78,18 @@ pub fn decode_adpcm_ima_ima4_from(
     let kept = from / every;
     let state = state_behind(&buf[34 * (every * kept)..34 * from], state_in(index, kept));
     decode_adpcm_ima_ima4_run(&buf[34 * from..], state, out_samples)
+}
+
+// The four bytes before the states: the length of what stands behind the first two, the version, and k.
+fn put_head(index: &mut [u8], every: u8)
+    requires { ⌜ (4 ≤ length (now index)) × (length (now index) < 65536) ⌝ }
+    ensures { λ _. ⌜ take 4 (now (index .exit)) ≡ recordHead every (length (now (index .entry)) - 2) ⌝ }
+{
+    let rest = (index.len() - 2) as u32;
+    index[0] = high_half(rest);
+    index[1] = low_half(rest);
+    index[2] = 1;
+    index[3] = every;
 }
 
 // The i-th state of an index.

@@ -1,10 +1,11 @@
 -- The bytes of states, and the states read back from a record. Assumes nothing.
 use mathlib.Core.Path.{_≡_, refl, sym, ap, ap₂, _∙_}
-use mathlib.Core.List.{List, [], _∷_, _++_}
-use Prim.Native.Nat.{ℕ, zero, suc, _+_, _*_, _/_, _%_, _<_}
+use mathlib.Core.List.{List, [], _∷_, _++_, append-nil}
+use Prim.Native.Nat.{ℕ, zero, suc, _+_, _-_, _*_, _/_, _%_, _≤_, _<_}
 use native.Mathlib.Omega.{arith}
-use lib.ListN.{length, getD, take, drop}
-use lib.Seq.{drop-cons, drop-append-add}
+use lib.ListN.{length, getD, set, take, drop, length-append, length-drop, drop-of-length-le}
+use lib.Seq.{drop-cons, drop-append-add, length-take-le}
+use borrow.Rule.Slice.PartMut.{putMid}
 use Rattle.halves.specs.Halves.{bitsOf, fromHalves}
 use Rattle.halves.proofs.Halves.{halves-back}
 use Rattle.ima_nibble.specs.Step.{State, state, sixteen, In}
@@ -35,3 +36,24 @@ state-back head four sts i d h inside =
     let behind = ap (λ (n : ℕ). drop (n + 3 * i) (head ++ stateBytes sts)) (sym four) ∙ drop-append-add head (stateBytes sts) (3 * i) in
     let three = behind ∙ bytes-drop i sts ∙ ap stateBytes (drop-cons sts i d h) in
     rw three (ap (λ p. state p (st .index)) (halves-back (st .predictor) (inside .above) (inside .below)))
+
+-- the four bytes before the states are written
+pub first-four : (out : List ℕ) (a b c d : ℕ) → 4 ≤ length out → take 4 (set (set (set (set out 0 a) 1 b) 2 c) 3 d) ≡ a ∷ b ∷ c ∷ d ∷ []
+first-four [] a b c d h = absurd (omega arith)
+first-four (w ∷ []) a b c d h = absurd (omega arith)
+first-four (w ∷ x ∷ []) a b c d h = absurd (omega arith)
+first-four (w ∷ x ∷ y ∷ []) a b c d h = absurd (omega arith)
+first-four (w ∷ x ∷ y ∷ z ∷ zs) a b c d h = refl
+
+-- all behind the first p is written, as it was lent
+pub put-behind : (p : ℕ) (xs ys : List ℕ) → p ≤ length xs → putMid p (length xs - p) xs ys ≡ take p xs ++ ys
+put-behind p xs ys h =
+    let none = drop-of-length-le (drop p xs) {i = length xs - p} (omega (arith, length-drop p xs)) in
+    ap (λ (zs : List ℕ). take p xs ++ (ys ++ zs)) none ∙ ap (λ (zs : List ℕ). take p xs ++ zs) (append-nil ys)
+
+pub length-behind : (p : ℕ) (xs ys : List ℕ) → p ≤ length xs → length ys ≡ length xs - p → length (putMid p (length xs - p) xs ys) ≡ length xs
+length-behind p xs ys h e = ap length (put-behind p xs ys h) ∙ length-append (take p xs) ys ∙ omega (arith, length-take-le p xs h, e)
+
+-- what is lent there
+pub lent-behind : (p : ℕ) (xs : List ℕ) → p ≤ length xs → length (take (length xs - p) (drop p xs)) ≡ length xs - p
+lent-behind p xs h = length-take-le (length xs - p) (drop p xs) (omega (arith, length-drop p xs))

@@ -2,7 +2,7 @@
 use mathlib.Core.Path.{_≡_, refl, sym, _∙_}
 use mathlib.Core.Bool.{Bool, true, false, cond, _&&_, and-eq-true-iff, and-false}
 use mathlib.Core.List.{List}
-use Prim.Native.Nat.{ℕ, _-_, _*_, _/_, _≤_, _<_}
+use Prim.Native.Nat.{ℕ, zero, suc, _-_, _*_, _/_, _≤_, _<_}
 use native.Mathlib.Omega.{arith}
 use lib.Dec.{eqb, ltb, leb}
 use lib.ListN.{length}
@@ -67,3 +67,15 @@ from-taken bytes index j samples t = rw t refl
 
 pub from-refused : (bytes : ℕ) (index : List ℕ) (j samples : ℕ) → (placeRefusal bytes index j ≡ 0 → ⊥) → fromRefusal bytes index j samples ≡ placeRefusal bytes index j
 from-refused bytes index j samples refused = rw (ne-eqb (placeRefusal bytes index j) 0 refused) refl
+
+-- the place is taken, and so are the samples
+chosen : (number : ℕ) (is : Bool) → _≡_ {A = ℕ} (cond (eqb number 0) (cond is 0 3) number) 0 → (number ≡ 0) × (is ≡ true)
+chosen zero true t = (refl, refl)
+chosen zero false t = absurd (omega (arith, t))
+chosen (suc number) is t = let more : _≡_ {A = ℕ} (suc number) 0 = rw (ne-eqb (suc number) 0 (λ e. omega (arith, e))) at t in absurd (omega (arith, more))
+
+pub from-done : (bytes : ℕ) (index : List ℕ) (j samples : ℕ) → fromRefusal bytes index j samples ≡ 0 → (placeRefusal bytes index j ≡ 0) × (samples ≡ 64 * (bytes / 34 - j))
+from-done bytes index j samples t =
+    let wanted = 64 * (bytes / 34 - j) in
+    let (place, fits) = chosen (placeRefusal bytes index j) (eqb samples wanted) t in
+    (place, eqb-true samples wanted fits)

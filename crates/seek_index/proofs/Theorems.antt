@@ -70,7 +70,7 @@ module _ (k : ℕ) (some : 1 ≤ k) (n : ℕ) (st : State) (inside : In sixteen 
       let none : 0 + i ≡ i = omega arith in
       let is = getD-from (keptOf k st bytes) m 0 i st h ∙ ap (keptOf k st bytes) none in
       let fits : In sixteen (getD sts i st .predictor) = rw is (before-in (k * i) st bytes inside) in
-      state-back (recordHead k n) refl sts i st (omega (arith, length-from (keptOf k st bytes) m 0)) fits ∙ is
+      state-back (recordHead k (restLength k n)) refl sts i st (omega (arith, length-from (keptOf k st bytes) m 0)) fits ∙ is
 
   every-back : everyIn (seekIndex k n st bytes) ≡ k
   unfolding seekIndex
@@ -108,24 +108,24 @@ module _ (k : ℕ) (some : 1 ≤ k) (n : ℕ) (st : State) (inside : In sixteen 
   abbrev m : ℕ
   m = statesKept k n
 
-  in-parts : (bytes : List ℕ) → seekIndex k n st bytes ≡ (recordHead k n ++ stateBytes (from i 0 (keptOf k st bytes))) ++ stateBytes (from (m - i) i (keptOf k st bytes))
+  in-parts : (bytes : List ℕ) → seekIndex k n st bytes ≡ (recordHead k (restLength k n) ++ stateBytes (from i 0 (keptOf k st bytes))) ++ stateBytes (from (m - i) i (keptOf k st bytes))
   unfolding seekIndex
   in-parts bytes =
       let xs = from i 0 (keptOf k st bytes) in
       let ys = from (m - i) i (keptOf k st bytes) in
-      ap (λ (sts : List State). recordHead k n ++ stateBytes sts) (in-two (keptOf k st bytes) i m (kept-at k some n j h))
-      ∙ ap (λ (bs : List ℕ). recordHead k n ++ bs) (bytes-append xs ys)
-      ∙ sym (append-assoc (recordHead k n) (stateBytes xs) (stateBytes ys))
+      ap (λ (sts : List State). recordHead k (restLength k n) ++ stateBytes sts) (in-two (keptOf k st bytes) i m (kept-at k some n j h))
+      ∙ ap (λ (bs : List ℕ). recordHead k (restLength k n) ++ bs) (bytes-append xs ys)
+      ∙ sym (append-assoc (recordHead k (restLength k n)) (stateBytes xs) (stateBytes ys))
 
-  stays : take (4 + 3 * i) (seekIndex k n st old) ≡ recordHead k n ++ stateBytes (from i 0 (keptOf k st new))
+  stays : take (4 + 3 * i) (seekIndex k n st old) ≡ recordHead k (restLength k n) ++ stateBytes (from i 0 (keptOf k st new))
   stays =
       let xs = from i 0 (keptOf k st old) in
       let ys = stateBytes (from (m - i) i (keptOf k st old)) in
-      let front = recordHead k n ++ stateBytes xs in
+      let front = recordHead k (restLength k n) ++ stateBytes xs in
       let long : length front ≡ 4 + 3 * i = omega (arith, bytes-length xs, length-from (keptOf k st old) i 0) in
       ap (take (4 + 3 * i)) (in-parts old)
       ∙ take-at front ys (4 + 3 * i) long
-      ∙ ap (λ (sts : List State). recordHead k n ++ stateBytes sts)
+      ∙ ap (λ (sts : List State). recordHead k (restLength k n) ++ stateBytes sts)
       (alike (keptOf k st old) (keptOf k st new) i 0 (λ p l u. same (k * p) (omega (arith, mul-le-mul-left {m = p} {n = j / k} k (omega arith), mul-div-le j k))))
 
   anew : from (m - i) i (λ e. reached (seekIndex k n st old) new j (k * e)) ≡ from (m - i) i (keptOf k st new)

@@ -24,15 +24,15 @@ stateBytes [] = []
 stateBytes (st ∷ sts) = (bitsOf (st .predictor) / 256) ∷ (bitsOf (st .predictor) % 256) ∷ st .index ∷ stateBytes sts
 
 -- Two bytes big-endian length of the rest, version byte 1, k,
+abbrev pub recordHead : ℕ → ℕ → List ℕ
+recordHead k rest = (rest / 256) ∷ (rest % 256) ∷ 1 ∷ k ∷ []
+
 abbrev pub restLength : ℕ → ℕ → ℕ
 restLength k n = 2 + 3 * statesKept k n
 
-abbrev pub recordHead : ℕ → ℕ → List ℕ
-recordHead k n = (restLength k n / 256) ∷ (restLength k n % 256) ∷ 1 ∷ k ∷ []
-
 -- then the states. The first is the start state.
 unfoldable pub seekIndex : ℕ → ℕ → State → List ℕ → List ℕ
-seekIndex k n st bytes = recordHead k n ++ stateBytes (keptStates k n st bytes)
+seekIndex k n st bytes = recordHead k (restLength k n) ++ stateBytes (keptStates k n st bytes)
 
 -- ---- Read from any record, which is believed
 
