@@ -9,7 +9,7 @@ use lib.Dec.{eqb}
 use lib.IntN.{ℤ}
 use lib.ListN.{length, getD, take, drop, length-append}
 use lib.Seq.{take-at, drop-at, length-take-le}
-use borrow.Author.Tests.{le-leb, lt-ltb, eq-eqb}
+use borrow.Author.Tests.{le-leb, lt-ltb, eq-eqb, ne-eqb}
 use Rattle.num.specs.Lists.{from}
 use Rattle.num.specs.Outcome.{outcome}
 use Rattle.num.proofs.Lists.{length-from, getD-from}
@@ -185,3 +185,20 @@ module _ (st : State) (inside : In sixteen (st .predictor)) (bytes : List ℕ) (
       let (few, size, some, most, _) = facts in
       let same = same-before st bytes new j (omega (arith, size)) (omega (arith, size, e)) alike in
       rw (taken, place new e j h, e, taken) (ap (outcome 0 tt) (rebuilds k some n st inside bytes new j h same))
+
+-- The state of decoding from a block is written only: what is given counts where the call is refused.
+module _ (given other : State) (bytes index : List ℕ) (j : ℕ) (out : List ℤ) where
+  abbrev number : ℕ
+  number = fromRefusal (length bytes) index j (length out)
+
+  abbrev made : State × List ℤ
+  made = let r = decodedFrom (length bytes / 34) index bytes j in (r .end, r .written)
+
+  pub from-any : decodeIma4From given bytes index j out .number ≡ 0 → decodeIma4From given bytes index j out ≡ decodeIma4From other bytes index j out
+  unfolding decodeIma4From
+  from-any done = let zero = sym (number-is number made (given, out)) ∙ done in rw zero refl
+
+  pub from-none : (decodeIma4From given bytes index j out .number ≡ 0 → ⊥)
+      → outcome (decodeIma4From given bytes index j out .number) other (decodeIma4From given bytes index j out .buffer) ≡ decodeIma4From other bytes index j out
+  unfolding decodeIma4From
+  from-none refused = let other-than = ne-eqb number 0 (λ z. refused (number-is number made (given, out) ∙ z)) in rw other-than refl

@@ -11,12 +11,16 @@ use ms_decode::decode_adpcm_ima_ms;
 use ms_encode::encode_adpcm_ima_ms;
 use ms_layout::MOST;
 use repacking::repack_adpcm_ima_ms;
+use seek::decode_adpcm_ima_ima4_from;
+use seek::index_adpcm_ima_ima4;
+use seek::reindex_adpcm_ima_ima4;
 ghost use mathlib.Core.Path.{_≡_};
 ghost use lib.ListN.{length};
 ghost use Rattle.num.specs.Outcome.{outcome};
 ghost use Rattle.ima_nibble.specs.Step.{state, sixteen, stepped, emitted};
 ghost use Rattle.ima_nibble.specs.Table.{imaSteps};
 ghost use Rattle.ima4_block.specs.Call.{decodeIma4Run, encodeIma4Run};
+ghost use Rattle.seek_index.specs.Call.{indexIma4, reindexIma4, decodeIma4From};
 ghost use Rattle.loss.specs.Loss.{placeOf, report};
 ghost use Rattle.ms_block.specs.Call.{decodeMs, encodeMs};
 ghost use Rattle.ms_block.specs.Sizes.{most};
@@ -27,7 +31,7 @@ ghost use Rattle.channels.specs.States.{statesOf};
 ghost use Rattle.g711.specs.Law.{mu-law, A-law, sampleOf, codeOf};
 
 // The header has it too, and so has the Cargo.toml of the Rust crate.
-const VERSION: u32 = 100;
+const VERSION: u32 = 200;
 
 #[no_mangle]
 pub extern "C" fn spr_version() -> u32
@@ -134,6 +138,56 @@ pub extern "C" fn spr_encode_ima4(
     *predictor = next;
     *step_index = encoded_run.state.step_index;
     encoded_run.refusal
+}
+
+// A seek index beside a run. The run's bytes are refused by 3, and then k, the record or the place by 5; nothing is written then.
+#[no_mangle]
+pub extern "C" fn spr_ima4_index(
+    bytes: &[u8],
+    every: u8,
+    predictor: &mut i16,
+    step_index: &mut u8,
+    record: &mut [u8],
+) -> u8
+    ensures { λ r. ⌜ outcome r (state (now (predictor .exit)) (now («step_index» .exit))) (now («record» .exit)) ≡ indexIma4 (state (now (predictor .entry)) (now («step_index» .entry))) (now (bytes .entry)) every (now («record» .entry)) ⌝ }
+{
+    let before = AdpcmImaState {
+        predictor: *predictor,
+        step_index: *step_index,
+    };
+    let indexed_run = index_adpcm_ima_ima4(bytes, before, every, record);
+    let next = indexed_run.state.predictor;
+    *predictor = next;
+    *step_index = indexed_run.state.step_index;
+    indexed_run.refusal
+}
+
+#[no_mangle]
+pub extern "C" fn spr_ima4_reindex(bytes: &[u8], from: usize, record: &mut [u8]) -> u8
+    ensures { λ r. ⌜ outcome r tt (now («record» .exit)) ≡ reindexIma4 (now (bytes .entry)) from (now («record» .entry)) ⌝ }
+{
+    reindex_adpcm_ima_ima4(bytes, from, record)
+}
+
+// The state is written only. Samples that do not fit are refused by 3, after all else.
+#[no_mangle]
+pub extern "C" fn spr_decode_ima4_from(
+    bytes: &[u8],
+    record: &[u8],
+    from: usize,
+    predictor: &mut i16,
+    step_index: &mut u8,
+    samples: &mut [i16],
+) -> u8
+    ensures { λ r. ⌜ outcome r (state (now (predictor .exit)) (now («step_index» .exit))) (now (samples .exit)) ≡ decodeIma4From (state (now (predictor .entry)) (now («step_index» .entry))) (now (bytes .entry)) (now («record» .entry)) from (now (samples .entry)) ⌝ }
+{
+    let decoded_run = decode_adpcm_ima_ima4_from(bytes, record, from, samples);
+    if decoded_run.refusal == 0 {
+        let next = decoded_run.state.predictor;
+        *predictor = next;
+        *step_index = decoded_run.state.step_index;
+    }
+    decoded_run.refusal
 }
 
 // One MS block. Channel numbers that are not taken are refused by 1, and then lengths by 2; nothing is written then.
