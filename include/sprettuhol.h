@@ -1,8 +1,8 @@
 /* The C interface of Sprettuhol, for C99 and later, and for C++11 and later.
  *
  * Sprettuhol encodes and decodes speech by the mu-law and A-law of G.711 and by IMA ADPCM: single nibbles,
- * runs of ima4 blocks, and MS blocks. It repacks MS blocks, and reports what differs between two runs of samples.
- * Every function is proved to meet its contract; docs/PROMISES.md has the promises.
+ * runs of ima4 blocks, and MS blocks. It indexes runs of ima4 blocks, repacks MS blocks, and reports what differs
+ * between two runs of samples. Every function is proved to meet its contract; docs/PROMISES.md has the promises.
  *
  * 'MS' is IMA ADPCM as WAV files have it, format 0x0011. It is not Microsoft ADPCM, format 0x0002.
  *
@@ -34,15 +34,17 @@
 #include <stddef.h>
 #include <stdint.h>
 
-/* The version of this header, 0.1.0: 10,000 for each major number, 100 for each minor one, 1 for each patch. */
-#define SPR_VERSION 100
+/* The version of this header, 0.2.0: 10,000 for each major number, 100 for each minor one, 1 for each patch. */
+#define SPR_VERSION 200
 
 /* What the calls that can refuse return. Each number is given for its cause alone, and always then; the
- * channel number is tested before the lengths. */
+ * channel number is tested before the lengths, and an index after the run's bytes and before its samples. No
+ * call returns 4, which is the program repack's. */
 #define SPR_DONE 0
 #define SPR_REFUSED_CHANNELS 1 /* MS: the channel number is not 1 or 2 */
 #define SPR_REFUSED_LENGTHS 2  /* MS, loss: a length is not allowed, or two do not fit each other */
 #define SPR_REFUSED_BLOCKS 3   /* ima4: not 34 bytes and 64 samples a block, or over 1,024 blocks */
+#define SPR_REFUSED_INDEX 5    /* ima4 index: not 1 to 64 blocks a state, an unfitting record, or no such block */
 
 #define SPR_NOWHERE UINT32_MAX /* spr_loss: there is no first place that differs */
 
@@ -62,6 +64,14 @@
      : (channels) == 1 || ((channels) == 2 && (size_t)(block_len) % 8 == 0)                              \
          ? 2 * (size_t)(block_len) - 7 * (size_t)(channels)                                              \
          : (size_t)0)
+
+/* How many bytes the index of a run has: 4, and 3 for each state, of which there is one for each `every` blocks,
+ * and one for those that are left. It is 0 where the calls refuse the number of blocks or `every`. It is a
+ * constant if both arguments are, and evaluates them more than once. */
+#define SPR_IMA4_INDEX_BYTES(blocks, every)                                                              \
+    ((every) < 1 || (every) > 64 || (size_t)(blocks) / (SPR_IMA4_MOST_BLOCKS + 1) != 0                   \
+         ? (size_t)0                                                                                     \
+         : 4 + 3 * (((size_t)(blocks) + (size_t)(every) - 1) / (size_t)(every)))
 
 #ifdef __cplusplus
 extern "C" {
@@ -121,6 +131,55 @@ uint8_t spr_decode_ima4(const uint8_t *bytes, size_t bytes_len, int16_t *predict
  * SPR_REFUSED_BLOCKS: as in decoding. Then neither `bytes` nor the state changes. */
 uint8_t spr_encode_ima4(const int16_t *samples, size_t samples_len, int16_t *predictor, uint8_t *step_index,
                         uint8_t *bytes, size_t bytes_len);
+
+/* The index of a run of 0 to 1,024 ima4 blocks: states of its decoder, by which decoding can start at any block.
+ * They are those before block 0 and before each `every`-th after it; `every` is 1 to 64. With m states it is a
+ * record of 4 + 3 * m bytes, which SPR_IMA4_INDEX_BYTES counts:
+ *
+ *     2 + 3 * m, in two bytes, high byte first; 1, the version; `every`;
+ *     then for each state: the predictor, in two bytes, high byte first; the step index
+ *
+ * A state is the decoder's own, before it looks at the block's header. The first is the one that is given, with
+ * its index as it is, even above 88.
+ *
+ * An index cannot know whether it is stale. If blocks have changed since, the calls below go on from states that
+ * are no longer the run's, and refuse nothing. So reindex where blocks are replaced; and where others may replace
+ * them, keep a name of the run's bytes beside the index, such as a hash, and compare it first.
+ *
+ * Reads `bytes` and the state. Writes all of `record`, and the state behind the last block, which is where the
+ * next run's index starts. Where there are no blocks the record is 0, 2, 1, `every`, and the state stays as it
+ * was given.
+ *
+ * SPR_REFUSED_BLOCKS: `bytes_len` is not 34 for each block, or there are over 1,024 blocks. SPR_REFUSED_INDEX:
+ * `every` is not 1 to 64, or `record_len` is not what SPR_IMA4_INDEX_BYTES says. Then neither `record` nor the
+ * state changes. */
+uint8_t spr_ima4_index(const uint8_t *bytes, size_t bytes_len, uint8_t every, int16_t *predictor,
+                       uint8_t *step_index, uint8_t *record, size_t record_len);
+
+/* An indexed run to samples, from block `from` on, counted from 0. It starts from the last state that is kept at
+ * or before that block, so it decodes at most `every` - 1 blocks more than it hands back.
+ *
+ * Reads `bytes` and `record`, whose states are believed: any two bytes are a predictor, and any one is an index.
+ * Writes all of `samples`, and the state behind the last block. The state is only written: what it was does not
+ * matter.
+ *
+ * SPR_REFUSED_BLOCKS: `bytes_len` as in indexing. SPR_REFUSED_INDEX: `record_len`, or one of the first four bytes
+ * of `record`, is not that of an index of so many blocks, or there is no block `from`, as in a run of no blocks.
+ * SPR_REFUSED_BLOCKS again: `samples_len` is not 64 for each block from there on. Then neither `samples` nor the
+ * state changes. */
+uint8_t spr_decode_ima4_from(const uint8_t *bytes, size_t bytes_len, const uint8_t *record, size_t record_len,
+                             size_t from, int16_t *predictor, uint8_t *step_index, int16_t *samples,
+                             size_t samples_len);
+
+/* The index again, of a run whose blocks from block `from` on were replaced, one for one.
+ *
+ * Reads `bytes`, and the last state that is kept at or before that block, which is believed. Writes the states
+ * behind that block. All else of `record` stays as it was, byte for byte, and no state is handed back.
+ *
+ * SPR_REFUSED_BLOCKS: `bytes_len` as in indexing. SPR_REFUSED_INDEX: as in decoding from a block. Then `record`
+ * does not change. */
+uint8_t spr_ima4_reindex(const uint8_t *bytes, size_t bytes_len, size_t from, uint8_t *record,
+                         size_t record_len);
 
 /* One MS block to samples; SPR_MS_SAMPLES says which lengths there are, and how many samples. For each channel
  * there is a header of four bytes: the predictor, low byte first, the index, and a byte that is ignored. Then

@@ -2,6 +2,7 @@
  * were, or the line of the first that fails, with the line of the table's row that it was about. */
 #include "checks.h"
 #include "rules.h"
+#include "seek.h"
 
 static void laws(void)
 {
@@ -124,6 +125,7 @@ static void ima4_headers(void)
         CHECK(spr_decode_ima4(block, 34, &p, &i, samples, 64) == SPR_DONE && samples[0] == rows[k].first);
         ima4_decoded(block, 1, &q, &j);
         CHECK(p == q && i == j && (rows[k].header > 0 || samples[63] == rows[k].first));
+        by_record(block, rows[k].predictor, rows[k].index, rows[k].first);
     }
 }
 
@@ -312,6 +314,15 @@ int main(void)
     ima4_lengths();
     ima4_headers();
     ima4_runs();
+    index_lengths();
+    index_counts();
+    index_records();
+    seek_heads();
+    seek_lengths();
+    seek_places();
+    seek_states();
+    seek_runs();
+    seek_cuts();
     ms_lengths();
     repacks();
     ms_counts();

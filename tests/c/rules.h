@@ -1,4 +1,5 @@
-/* What calls.c holds whole blocks to: the rules of their headers, and single nibbles. */
+/* What calls.c holds whole blocks to: the rules of their headers, and single nibbles. An index it holds to single
+ * blocks. */
 
 /* The samples, against the rule of the header and single nibbles from a state, which moves on. */
 static void ima4_decoded(const uint8_t *run, size_t blocks, int16_t *p, uint8_t *i)
@@ -21,6 +22,27 @@ static void ima4_encoded(size_t blocks, int16_t *p, uint8_t *i)
         const uint8_t *block = bytes + k / 64 * 34;
         CHECK(k % 64 > 0 || (block[0] << 8 | block[1]) == (((uint16_t)*p & 0xff80) | *i));
         CHECK((block[2 + k % 64 / 2] >> k % 2 * 4 & 15) == spr_encode_adpcm_ima(given_samples[k], p, i));
+    }
+}
+
+/* State number k of a record. */
+static void state_of(const uint8_t *record, size_t k, int16_t *p, uint8_t *i)
+{
+    const uint8_t *state = record + 4 + 3 * k;
+    *p = (int16_t)(state[0] << 8 | state[1]), *i = state[2];
+}
+
+/* The bytes, from the state before block `first` on, against single blocks from a state, which moves on. */
+static void ima4_indexed(const uint8_t *run, size_t first, size_t blocks, size_t every, int16_t *p, uint8_t *i)
+{
+    CHECK((size_t)(bytes[0] << 8 | bytes[1]) == 2 + 3 * ((blocks + every - 1) / every));
+    CHECK(bytes[2] == 1 && bytes[3] == every);
+    for (size_t k = first; k < blocks; k++) {
+        int16_t q = *p, out[64];
+        uint8_t j = *i;
+        if (k % every == 0)
+            state_of(bytes, k / every, &q, &j);
+        CHECK(*p == q && *i == j && spr_decode_ima4(run + 34 * k, 34, p, i, out, 64) == SPR_DONE);
     }
 }
 

@@ -23,9 +23,10 @@
 //!
 //! # What is added
 //!
-//! Runs of ima4 blocks ([`decode_adpcm_ima_ima4_run`], [`encode_adpcm_ima_ima4_run`]), repacking of MS
-//! blocks ([`repack_adpcm_ima_ms`]) and the loss report ([`loss_report`]). They answer a [`Refusal`]
-//! where the ported calls answer an [`Error`].
+//! Runs of ima4 blocks ([`decode_adpcm_ima_ima4_run`], [`encode_adpcm_ima_ima4_run`]), an index of a run
+//! ([`index_adpcm_ima_ima4`], [`index_bytes`], [`reindex_adpcm_ima_ima4`]) and decoding by it from any
+//! block on ([`decode_adpcm_ima_ima4_from`]), repacking of MS blocks ([`repack_adpcm_ima_ms`]) and the
+//! loss report ([`loss_report`]). They answer a [`Refusal`] where the ported calls answer an [`Error`].
 //!
 //! # What is proved
 //!
@@ -53,6 +54,7 @@ mod loss;
 mod ms;
 mod refusal;
 mod repacking;
+mod seek;
 
 pub use adpcm_ima::{decode_adpcm_ima, encode_adpcm_ima, AdpcmImaState};
 pub use g711::{decode_alaw, decode_ulaw, encode_alaw, encode_ulaw};
@@ -62,6 +64,8 @@ pub use loss::{loss_report, Loss};
 pub use ms::{decode_adpcm_ima_ms, encode_adpcm_ima_ms};
 pub use refusal::{Error, Refusal};
 pub use repacking::repack_adpcm_ima_ms;
+pub use seek::{decode_adpcm_ima_ima4_from, index_bytes};
+pub use seek::{index_adpcm_ima_ima4, reindex_adpcm_ima_ima4};
 
 #[cfg(test)]
 mod tests {

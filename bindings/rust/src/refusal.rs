@@ -14,6 +14,9 @@ pub enum Refusal {
     Lengths,
     /// 3: of ima4, not 34 bytes a block, not 64 samples a block, or over 1,024 blocks.
     Blocks,
+    /// 5: of an index, not 1 to 64 blocks a state, a length or a head that does not fit the run, or no
+    /// such block.
+    Index,
 }
 
 impl Refusal {
@@ -24,7 +27,8 @@ impl Refusal {
     ///
     /// let refused = repack_adpcm_ima_ms(3, &[0; 4], &mut [0; 4]);
     /// assert_eq!(refused.map_err(Refusal::number), Err(1));
-    /// assert_eq!([Refusal::Lengths.number(), Refusal::Blocks.number()], [2, 3]);
+    /// let others = [Refusal::Lengths, Refusal::Blocks, Refusal::Index];
+    /// assert_eq!(others.map(Refusal::number), [2, 3, 5]);
     /// assert_eq!(Refusal::Channels.to_string(), "the channel number is not 1 or 2");
     /// ```
     pub fn number(self) -> u8 {
@@ -32,6 +36,7 @@ impl Refusal {
             Refusal::Channels => 1,
             Refusal::Lengths => 2,
             Refusal::Blocks => 3,
+            Refusal::Index => 5,
         }
     }
 }
@@ -42,6 +47,7 @@ impl fmt::Display for Refusal {
             Refusal::Channels => "the channel number is not 1 or 2",
             Refusal::Lengths => "a length is not allowed, or two lengths do not fit each other",
             Refusal::Blocks => "not 34 bytes and 64 samples a block, or over 1,024 blocks",
+            Refusal::Index => "not 1 to 64 blocks a state, an unfitting index, or no such block",
         })
     }
 }
@@ -69,12 +75,12 @@ impl fmt::Display for Error {
 
 impl core::error::Error for Error {}
 
-/// Both kinds of length are a buffer's.
+/// What is no channel number is a buffer's.
 impl From<Refusal> for Error {
     fn from(refusal: Refusal) -> Error {
         match refusal {
             Refusal::Channels => Error::InvalidChannels,
-            Refusal::Lengths | Refusal::Blocks => Error::InvalidBufferSize,
+            Refusal::Lengths | Refusal::Blocks | Refusal::Index => Error::InvalidBufferSize,
         }
     }
 }
@@ -85,6 +91,7 @@ pub(crate) fn answer(number: u8) -> Result<(), Refusal> {
         0 => Ok(()),
         1 => Err(Refusal::Channels),
         3 => Err(Refusal::Blocks),
+        5 => Err(Refusal::Index),
         // 2. It is proved that there is no other number. If there were, nobody could rely on what was
         // written, so it must not pass for done
         _ => Err(Refusal::Lengths),
@@ -98,14 +105,14 @@ mod tests {
     #[test]
     fn each_number_is_its_own_refusal() {
         assert_eq!(answer(0), Ok(()));
-        for number in 1..=3 {
+        for number in [1, 2, 3, 5] {
             assert_eq!(answer(number).map_err(Refusal::number), Err(number));
         }
     }
 
     #[test]
     fn no_other_number_passes_for_done() {
-        for number in 4..=255 {
+        for number in (4..=255).filter(|&number| number != 5) {
             assert_eq!(answer(number), Err(Refusal::Lengths), "{number}");
         }
     }
@@ -113,7 +120,7 @@ mod tests {
     #[test]
     fn refusals_are_the_errors_of_the_original() {
         assert!(matches!(Refusal::Channels.into(), Error::InvalidChannels));
-        for refusal in [Refusal::Lengths, Refusal::Blocks] {
+        for refusal in [Refusal::Lengths, Refusal::Blocks, Refusal::Index] {
             assert!(matches!(refusal.into(), Error::InvalidBufferSize));
         }
     }

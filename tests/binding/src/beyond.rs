@@ -1,6 +1,6 @@
-//! The calls that the binding adds. A run is held to the Rust's call for one block, with the state handed
-//! on; repacking to its decoder and then its encoder; the loss report to a plain loop. What is refused
-//! leaves all as it was.
+//! The calls that the binding adds, but for those of an index (seek.rs). A run is held to the Rust's call
+//! for one block, with the state handed on; repacking to its decoder and then its encoder; the loss report
+//! to a plain loop. What is refused leaves all as it was.
 
 use crate::{oracle, plain};
 use audio_codec_algorithms::{decode_adpcm_ima_ima4, encode_adpcm_ima_ima4, AdpcmImaState};
@@ -10,7 +10,7 @@ use sprettuhol::{decode_adpcm_ima_ima4_run, encode_adpcm_ima_ima4_run, repack_ad
 use sprettuhol::{loss_report, Loss, Refusal};
 
 /// What is expected, and what the binding did.
-type Both = (Outcome, Outcome);
+pub type Both = (Outcome, Outcome);
 
 pub const CALLS: [fn(u64) -> Both; 4] = [decode_run, encode_run, repack, loss];
 
@@ -32,14 +32,15 @@ pub const LOSSES: [(&str, &str); 3] = [
 ];
 
 /// Each refusal, its number and its text.
-const REFUSALS: [&str; 3] = [
+pub const REFUSALS: [&str; 4] = [
     "Channels 1, the channel number is not 1 or 2",
     "Lengths 2, a length is not allowed, or two lengths do not fit each other",
     "Blocks 3, not 34 bytes and 64 samples a block, or over 1,024 blocks",
+    "Index 5, not 1 to 64 blocks a state, an unfitting index, or no such block",
 ];
 
 /// An answer of the binding.
-fn told(answer: Result<&str, Refusal>) -> String {
+pub fn told(answer: Result<&str, Refusal>) -> String {
     let words = |refusal: Refusal| format!("{refusal:?} {}, {refusal}", refusal.number());
     answer.map_or_else(words, String::from)
 }
@@ -73,7 +74,7 @@ fn encode_run(seed: u64) -> Both {
     both_runs(call, random, run, bytes_len, rust, binding)
 }
 
-fn encode_blocks(samples: &[i16], state: &mut AdpcmImaState, out: &mut [u8]) {
+pub fn encode_blocks(samples: &[i16], state: &mut AdpcmImaState, out: &mut [u8]) {
     for (block, out) in samples.chunks_exact(64).zip(out.chunks_exact_mut(34)) {
         encode_adpcm_ima_ima4(block.try_into().unwrap(), state, out.try_into().unwrap());
     }

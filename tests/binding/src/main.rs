@@ -1,13 +1,14 @@
 //! Makes the same calls at random with audio_codec_algorithms and with the proved library in its place,
 //! from one source that is compiled with each (../calls.rs), and compares all that they leave. The calls
-//! that the binding adds are held to the Rust too (beyond.rs). Any difference fails the run, and so does
-//! an answer that never came.
+//! that the binding adds are held to the Rust too (beyond.rs, seek.rs). Any difference fails the run, and
+//! so does an answer that never came.
 
 mod beyond;
 #[path = "../../differential/src/ms/oracle.rs"]
 mod oracle;
 #[path = "../../differential/src/loss/plain.rs"]
 mod plain;
+mod seek;
 
 use calls_rust::{Outcome, KINDS};
 use std::collections::{BTreeMap, BTreeSet};
@@ -19,7 +20,7 @@ const SEEDS: u64 = 6_000;
 const PRINTED: u64 = 3;
 
 /// Each call; and all the answers that have to come, each after what it has to come for.
-const ANSWERS: [(&str, Answers); KINDS + beyond::CALLS.len()] = [
+const ANSWERS: [(&str, Answers); KINDS + beyond::CALLS.len() + seek::CALLS.len()] = [
     ("decode_alaw", &[("any", DONE)]),
     ("encode_alaw", &[("any", DONE)]),
     ("decode_ulaw", &[("any", DONE)]),
@@ -38,6 +39,9 @@ const ANSWERS: [(&str, Answers); KINDS + beyond::CALLS.len()] = [
     ("encode_adpcm_ima_ima4_run", &beyond::RUNS),
     ("repack_adpcm_ima_ms", &beyond::REPACKINGS),
     ("loss_report", &beyond::LOSSES),
+    ("index_adpcm_ima_ima4", &seek::INDEXED),
+    ("reindex_adpcm_ima_ima4", &seek::REINDEXED),
+    ("decode_adpcm_ima_ima4_from", &seek::DECODED),
 ];
 type Answers = &'static [(&'static str, &'static str)];
 const DONE: &str = "done";
@@ -61,6 +65,7 @@ fn main() -> ExitCode {
     let twice = |kind, seed| (calls_rust::call(kind, seed), calls_proved::call(kind, seed));
     let tallies = (0..KINDS).map(|kind| tally(|seed| twice(kind, seed)));
     let tallies = tallies.chain(beyond::CALLS.map(tally));
+    let tallies = tallies.chain(seek::CALLS.map(tally));
     // all of them are gone through, so that a call which differs hides no other
     let held = tallies.zip(ANSWERS).filter(holds).count();
     println!("{held} of {} calls hold", ANSWERS.len());
@@ -107,7 +112,7 @@ fn holds((tally, (call, answers)): &(Tally, (&'static str, Answers))) -> bool {
     let compared: u64 = came.values().sum();
     let refused = compared - accepted;
     println!(
-        "{call:<26}{compared} compared: {accepted} accepted, {refused} refused; {differ} differ"
+        "{call:<27}{compared} compared: {accepted} accepted, {refused} refused; {differ} differ"
     );
     let came: BTreeSet<_> = came.keys().cloned().collect();
     let each = |&(all, answer): &(&'static str, &'static str)| {
