@@ -19,7 +19,7 @@ bytes-length (st ∷ sts) = omega (arith, bytes-length sts)
 pub bytes-append : (xs ys : List State) → stateBytes (xs ++ ys) ≡ stateBytes xs ++ stateBytes ys
 unfolding stateBytes
 bytes-append [] ys = refl
-bytes-append (x ∷ xs) ys = ap (λ (bs : List ℕ). (bitsOf (x .predictor) / 256) ∷ (bitsOf (x .predictor) % 256) ∷ x .index ∷ bs) (bytes-append xs ys)
+bytes-append (x ∷ xs) ys = rw (bytes-append xs ys) refl
 
 bytes-drop : (i : ℕ) (sts : List State) → drop (3 * i) (stateBytes sts) ≡ stateBytes (drop i sts)
 unfolding stateBytes

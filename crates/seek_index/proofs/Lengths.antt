@@ -11,10 +11,10 @@ use Rattle.seek_index.specs.Record.{restLength, versionIn, restIn, every
 use Rattle.seek_index.specs.Call.{areRun, isEvery, indexLength, indexRefusal, isIndex, placeRefusal, fromRefusal}
 
 -- both tests passed
-tested : (a b : Bool) → _≡_ {A = ℕ} (cond a (cond b 0 5) 3) 0 → (a ≡ true) × (b ≡ true)
-tested true true t = (refl, refl)
-tested true false t = absurd (omega (arith, t))
-tested false b t = absurd (omega (arith, t))
+tested : {x y : ℕ} (a b : Bool) → 1 ≤ x → 1 ≤ y → cond a (cond b 0 x) y ≡ 0 → (a ≡ true) × (b ≡ true)
+tested true true h l t = (refl, refl)
+tested true false h l t = absurd (omega (arith, t, h))
+tested false b h l t = absurd (omega (arith, t, l))
 
 pub run-are : (bytes : ℕ) → areRun bytes ≡ true → (bytes / 34 ≤ 1024) × (bytes ≡ 34 * (bytes / 34))
 run-are bytes t =
@@ -28,7 +28,7 @@ pub index-taken : (bytes k size : ℕ) → indexRefusal bytes k size ≡ 0 → l
 index-taken bytes k size t =
     let n = bytes / 34 in
     let is = eqb size (indexLength k n) in
-    let (run, fits) = tested (areRun bytes) (isEvery k && is) t in
+    let (run, fits) = tested (areRun bytes) (isEvery k && is) (omega arith) (omega arith) t in
     let (every, sized) = and-eq-true-iff (isEvery k) is .0 fits in
     let (few, whole) = run-are bytes run in
     let (some, most) = every-is k every in
@@ -55,7 +55,7 @@ pub place-taken : (bytes : ℕ) (index : List ℕ) (j : ℕ) → placeRefusal by
     → let n = bytes / 34 in let k = everyIn index in (n ≤ 1024) × (bytes ≡ 34 * n) × (1 ≤ k) × (k ≤ 64) × (length index ≡ indexLength k n) × (j < n)
 place-taken bytes index j t =
     let n = bytes / 34 in
-    let (run, fits) = tested (areRun bytes) (isIndex n index && ltb j n) t in
+    let (run, fits) = tested (areRun bytes) (isIndex n index && ltb j n) (omega arith) (omega arith) t in
     let (is, before) = and-eq-true-iff (isIndex n index) (ltb j n) .0 fits in
     let (few, whole) = run-are bytes run in
     let (some, most, sized) = index-is n index is in

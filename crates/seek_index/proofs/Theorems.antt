@@ -21,7 +21,7 @@ use Rattle.ima4_block.specs.Run.{run}
 use Rattle.ima4_block.specs.Call.{finished, decodedRun, decodeIma4Run}
 use Rattle.ima4_block.proofs.Cut.{continued}
 use Rattle.ima4_block.proofs.Theorems.{decode-fits}
-use Rattle.seek_index.specs.Record.{stateBefore, statesKept, stateBytes, restLength, recordHead, seekIndex, restIn, everyIn, stateIn, reached, rebuilt}
+use Rattle.seek_index.specs.Record.{stateBefore, statesKept, keptState, stateBytes, restLength, recordHead, seekIndex, restIn, everyIn, stateIn, reached, rebuilt}
 use Rattle.seek_index.specs.Call.{areRun, indexLength, isIndex, indexRefusal, placeRefusal, fromRefusal, indexIma4, decodedFrom, decodeIma4From, reindexIma4}
 use Rattle.seek_index.proofs.Before.{onward, same-before, samples-before, before-in}
 use Rattle.seek_index.proofs.Bytes.{bytes-length, bytes-append, state-back}
@@ -29,18 +29,14 @@ use Rattle.seek_index.proofs.Kept.{kept-at}
 use Rattle.seek_index.proofs.Lengths.{index-taken, from-taken}
 use Rattle.seek_index.proofs.Listed.{in-two, alike}
 
--- the states that are kept of a run, as a rule
-abbrev keptOf : ℕ → State → List ℕ → ℕ → State
-keptOf k st bytes i = stateBefore st bytes (k * i)
-
 -- ---- the record
 
 -- Two bytes big-endian length of the rest.
 pub index-length : (k n : ℕ) (st : State) (bytes : List ℕ) → length (seekIndex k n st bytes) ≡ indexLength k n
 unfolding seekIndex
 index-length k n st bytes =
-    let sts = from (statesKept k n) 0 (keptOf k st bytes) in
-    omega (arith, bytes-length sts, length-from (keptOf k st bytes) (statesKept k n) 0)
+    let sts = from (statesKept k n) 0 (keptState k st bytes) in
+    omega (arith, bytes-length sts, length-from (keptState k st bytes) (statesKept k n) 0)
 
 pub rest-length : (k n : ℕ) (st : State) (bytes : List ℕ) → restIn (seekIndex k n st bytes) ≡ length (drop 2 (seekIndex k n st bytes))
 unfolding seekIndex
@@ -66,11 +62,11 @@ module _ (k : ℕ) (some : 1 ≤ k) (n : ℕ) (st : State) (inside : In sixteen 
   unfolding seekIndex
   read-back i h =
       let m = statesKept k n in
-      let sts = from m 0 (keptOf k st bytes) in
+      let sts = from m 0 (keptState k st bytes) in
       let none : 0 + i ≡ i = omega arith in
-      let is = getD-from (keptOf k st bytes) m 0 i st h ∙ ap (keptOf k st bytes) none in
+      let is = getD-from (keptState k st bytes) m 0 i st h ∙ ap (keptState k st bytes) none in
       let fits : In sixteen (getD sts i st .predictor) = rw is (before-in (k * i) st bytes inside) in
-      state-back (recordHead k (restLength k n)) refl sts i st (omega (arith, length-from (keptOf k st bytes) m 0)) fits ∙ is
+      state-back (recordHead k (restLength k n)) refl sts i st (omega (arith, length-from (keptState k st bytes) m 0)) fits ∙ is
 
   every-back : everyIn (seekIndex k n st bytes) ≡ k
   unfolding seekIndex
@@ -87,12 +83,7 @@ module _ (k : ℕ) (some : 1 ≤ k) (n : ℕ) (st : State) (inside : In sixteen 
   reaches : (new : List ℕ) (j : ℕ) → j < n → stateBefore st bytes (k * (j / k)) ≡ stateBefore st new (k * (j / k))
       → (b : ℕ) → k * (j / k) ≤ b → reached (seekIndex k n st bytes) new j b ≡ stateBefore st new b
   unfolding reached
-  reaches new j h same b le =
-      let i = j / k in
-      let kept = read-back i (kept-at k some n j h) ∙ same in
-      ap (λ (e : ℕ). stateBefore (stateIn (seekIndex k n st bytes) (j / e)) (drop (34 * (e * (j / e))) new) (b - e * (j / e))) every-back
-      ∙ ap (λ (s : State). stateBefore s (drop (34 * (k * i)) new) (b - k * i)) kept
-      ∙ onward st new (k * i) b le
+  reaches new j h same b le = rw (every-back, read-back (j / k) (kept-at k some n j h), same) (onward st new (k * (j / k)) b le)
 
   seeks : (j : ℕ) → j < n → decodedRun n st bytes ≡ after (decodedRun j st bytes .written) (decodedFrom n (seekIndex k n st bytes) bytes j)
   seeks j h =
@@ -108,29 +99,29 @@ module _ (k : ℕ) (some : 1 ≤ k) (n : ℕ) (st : State) (inside : In sixteen 
   abbrev m : ℕ
   m = statesKept k n
 
-  in-parts : (bytes : List ℕ) → seekIndex k n st bytes ≡ (recordHead k (restLength k n) ++ stateBytes (from i 0 (keptOf k st bytes))) ++ stateBytes (from (m - i) i (keptOf k st bytes))
+  in-parts : (bytes : List ℕ) → seekIndex k n st bytes ≡ (recordHead k (restLength k n) ++ stateBytes (from i 0 (keptState k st bytes))) ++ stateBytes (from (m - i) i (keptState k st bytes))
   unfolding seekIndex
   in-parts bytes =
-      let xs = from i 0 (keptOf k st bytes) in
-      let ys = from (m - i) i (keptOf k st bytes) in
-      ap (λ (sts : List State). recordHead k (restLength k n) ++ stateBytes sts) (in-two (keptOf k st bytes) i m (kept-at k some n j h))
+      let xs = from i 0 (keptState k st bytes) in
+      let ys = from (m - i) i (keptState k st bytes) in
+      ap (λ (sts : List State). recordHead k (restLength k n) ++ stateBytes sts) (in-two (keptState k st bytes) i m (kept-at k some n j h))
       ∙ ap (λ (bs : List ℕ). recordHead k (restLength k n) ++ bs) (bytes-append xs ys)
       ∙ sym (append-assoc (recordHead k (restLength k n)) (stateBytes xs) (stateBytes ys))
 
-  stays : take (4 + 3 * i) (seekIndex k n st old) ≡ recordHead k (restLength k n) ++ stateBytes (from i 0 (keptOf k st new))
+  stays : take (4 + 3 * i) (seekIndex k n st old) ≡ recordHead k (restLength k n) ++ stateBytes (from i 0 (keptState k st new))
   stays =
-      let xs = from i 0 (keptOf k st old) in
-      let ys = stateBytes (from (m - i) i (keptOf k st old)) in
+      let xs = from i 0 (keptState k st old) in
+      let ys = stateBytes (from (m - i) i (keptState k st old)) in
       let front = recordHead k (restLength k n) ++ stateBytes xs in
-      let long : length front ≡ 4 + 3 * i = omega (arith, bytes-length xs, length-from (keptOf k st old) i 0) in
+      let long : length front ≡ 4 + 3 * i = omega (arith, bytes-length xs, length-from (keptState k st old) i 0) in
       ap (take (4 + 3 * i)) (in-parts old)
       ∙ take-at front ys (4 + 3 * i) long
       ∙ ap (λ (sts : List State). recordHead k (restLength k n) ++ stateBytes sts)
-      (alike (keptOf k st old) (keptOf k st new) i 0 (λ p l u. same (k * p) (omega (arith, mul-le-mul-left {m = p} {n = j / k} k (omega arith), mul-div-le j k))))
+      (alike (keptState k st old) (keptState k st new) i 0 (λ p l u. same (k * p) (omega (arith, mul-le-mul-left {m = p} {n = j / k} k (omega arith), mul-div-le j k))))
 
-  anew : from (m - i) i (λ e. reached (seekIndex k n st old) new j (k * e)) ≡ from (m - i) i (keptOf k st new)
+  anew : from (m - i) i (λ e. reached (seekIndex k n st old) new j (k * e)) ≡ from (m - i) i (keptState k st new)
   anew =
-      alike (λ e. reached (seekIndex k n st old) new j (k * e)) (keptOf k st new) (m - i) i
+      alike (λ e. reached (seekIndex k n st old) new j (k * e)) (keptState k st new) (m - i) i
       (λ p l u. reaches k some n st inside old new j h (same (k * (j / k)) (mul-div-le j k)) (k * p) (mul-le-mul-left {m = j / k} {n = p} k (omega arith)))
 
   rebuilds : rebuilt n (seekIndex k n st old) new j ≡ seekIndex k n st new

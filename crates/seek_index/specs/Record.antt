@@ -15,8 +15,11 @@ stateBefore st bytes b = decodedRun b st bytes .end
 abbrev pub statesKept : ℕ → ℕ → ℕ
 statesKept k n = (n + (k - 1)) / k
 
+abbrev pub keptState : ℕ → State → List ℕ → ℕ → State
+keptState k st bytes i = stateBefore st bytes (k * i)
+
 abbrev pub keptStates : ℕ → ℕ → State → List ℕ → List State
-keptStates k n st bytes = from (statesKept k n) 0 (λ i. stateBefore st bytes (k * i))
+keptStates k n st bytes = from (statesKept k n) 0 (keptState k st bytes)
 
 -- Three bytes per kept state (predictor big-endian, index). The index is raw, even above 88.
 unfoldable pub stateBytes : List State → List ℕ

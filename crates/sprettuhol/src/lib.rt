@@ -181,13 +181,13 @@ pub extern "C" fn spr_decode_ima4_from(
 ) -> u8
     ensures { λ r. ⌜ outcome r (state (now (predictor .exit)) (now («step_index» .exit))) (now (samples .exit)) ≡ decodeIma4From (state (now (predictor .entry)) (now («step_index» .entry))) (now (bytes .entry)) (now («record» .entry)) from (now (samples .entry)) ⌝ }
 {
-    let decoded_run = decode_adpcm_ima_ima4_from(bytes, record, from, samples);
-    if decoded_run.refusal == 0 {
-        let next = decoded_run.state.predictor;
+    let decoded_rest = decode_adpcm_ima_ima4_from(bytes, record, from, samples);
+    if decoded_rest.refusal == 0 {
+        let next = decoded_rest.state.predictor;
         *predictor = next;
-        *step_index = decoded_run.state.step_index;
+        *step_index = decoded_rest.state.step_index;
     }
-    decoded_run.refusal
+    decoded_rest.refusal
 }
 
 // One MS block. Channel numbers that are not taken are refused by 1, and then lengths by 2; nothing is written then.
