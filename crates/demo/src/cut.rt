@@ -1,12 +1,14 @@
 // Two ima4 blocks that were encoded as one run and are decoded apart. The second one's header has no room
 // for the low seven bits of the predictor: a decoder that is given the state has them, one that starts
-// from a zeroed state has not, and its samples move.
+// from a zeroed state has not, and its samples move. An index of the run has it too.
 use crate::print::print_signed;
 use adpcm_ima::AdpcmImaState;
 use ima4_decode::decode_adpcm_ima_ima4_run;
 use ima4_encode::encode_adpcm_ima_ima4_run;
 use libc::STDOUT_FILENO;
 use num::lesser;
+use seek::decode_adpcm_ima_ima4_from;
+use seek::index_adpcm_ima_ima4;
 ghost use mathlib.Core.Path.{_≡_};
 ghost use Prim.Native.Nat.{_<_, _≤_};
 ghost use lib.ListN.{length};
@@ -19,6 +21,7 @@ pub(crate) fn show() {
     let mut whole = [0i16; 128];
     decode_adpcm_ima_ima4_run(&bytes, AdpcmImaState::new(), &mut whole);
     decode_apart(&bytes, &whole[64..]);
+    decode_by_index(&bytes, &whole[64..]);
 }
 
 // `second` is what the second block decodes to in the run that is not cut.
@@ -31,6 +34,15 @@ fn decode_apart(bytes: &[u8], second: &[i16])
     print_compared(b"second block, state carried:", second, &samples);
     decode_adpcm_ima_ima4_run(&bytes[34..], AdpcmImaState::new(), &mut samples);
     print_compared(b"second block, state zeroed:", second, &samples);
+}
+
+// A jump to the second block: the index has the state before each of the two.
+fn decode_by_index(bytes: &[u8], second: &[i16]) {
+    let mut index = [0u8; 10];
+    index_adpcm_ima_ima4(bytes, AdpcmImaState::new(), 1, &mut index);
+    let mut samples = [0i16; 64];
+    decode_adpcm_ima_ima4_from(bytes, &index, 1, &mut samples);
+    print_compared(b"second block, by an index:", second, &samples);
 }
 
 // Up and down, 40 samples long.

@@ -1,5 +1,6 @@
 // Codes a few samples by both laws and decodes them again, and prints what became of each. Then it cuts
-// two ima4 blocks apart, and prints what the second decodes to with the first one's state and without.
+// two ima4 blocks apart, and prints what the second decodes to with the first one's state, without it, and
+// by way of an index.
 mod cut;
 mod laws;
 mod print;
