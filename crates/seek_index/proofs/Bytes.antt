@@ -1,12 +1,11 @@
 -- The bytes of states, and the states read back from a record. Assumes nothing.
-use mathlib.Core.Path.{_≡_, refl, sym, ap, ap₂, _∙_}
+use mathlib.Core.Path.{_≡_, refl, sym, ap, _∙_}
 use mathlib.Core.List.{List, [], _∷_, _++_, append-nil}
-use Prim.Native.Nat.{ℕ, zero, suc, _+_, _-_, _*_, _/_, _%_, _≤_, _<_}
+use Prim.Native.Nat.{ℕ, zero, suc, _+_, _-_, _*_, _≤_, _<_}
 use native.Mathlib.Omega.{arith}
-use lib.ListN.{length, getD, set, take, drop, length-append, length-drop, drop-of-length-le}
+use lib.ListN.{length, getD, set, take, drop, length-drop, drop-of-length-le}
 use lib.Seq.{drop-cons, drop-append-add, length-take-le}
 use borrow.Rule.Slice.PartMut.{putMid}
-use Rattle.halves.specs.Halves.{bitsOf, fromHalves}
 use Rattle.halves.proofs.Halves.{halves-back}
 use Rattle.ima_nibble.specs.Step.{State, state, sixteen, In}
 use Rattle.seek_index.specs.Record.{stateBytes, stateIn}
@@ -50,9 +49,6 @@ pub put-behind : (p : ℕ) (xs ys : List ℕ) → p ≤ length xs → putMid p (
 put-behind p xs ys h =
     let none = drop-of-length-le (drop p xs) {i = length xs - p} (omega (arith, length-drop p xs)) in
     ap (λ (zs : List ℕ). take p xs ++ (ys ++ zs)) none ∙ ap (λ (zs : List ℕ). take p xs ++ zs) (append-nil ys)
-
-pub length-behind : (p : ℕ) (xs ys : List ℕ) → p ≤ length xs → length ys ≡ length xs - p → length (putMid p (length xs - p) xs ys) ≡ length xs
-length-behind p xs ys h e = ap length (put-behind p xs ys h) ∙ length-append (take p xs) ys ∙ omega (arith, length-take-le p xs h, e)
 
 -- what is lent there
 pub lent-behind : (p : ℕ) (xs : List ℕ) → p ≤ length xs → length (take (length xs - p) (drop p xs)) ≡ length xs - p

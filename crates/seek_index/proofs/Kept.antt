@@ -1,6 +1,6 @@
 -- How many states are kept, and before which blocks. Assumes nothing.
 use mathlib.Core.Path.{_≡_, sym, ap, _∙_}
-use Prim.Native.Nat.{ℕ, suc, _+_, _-_, _*_, _/_, _%_, _≤_, _<_}
+use Prim.Native.Nat.{ℕ, suc, _+_, _-_, _*_, _/_, _≤_, _<_}
 use native.Mathlib.Nat.{div-add-mod, mod-lt, add-mul-div-left, mul-le-mul-left, lt-of-not-le}
 use native.Mathlib.Omega.{arith}
 use Rattle.seek_index.specs.Record.{statesKept}
@@ -26,3 +26,7 @@ module _ (k : ℕ) (some : 1 ≤ k) (n : ℕ) where
 
   pub none-kept : (i : ℕ) → n ≤ k * i → statesKept k n ≤ i
   none-kept i h = omega (arith, lt-of-not-le {n = suc i} {m = statesKept k n} (λ l. omega (arith, kept-before i l)))
+
+  -- At most k - 1 blocks stand between the kept state at or before block j and that block.
+  pub few-between : (j : ℕ) → j - k * (j / k) ≤ k - 1
+  few-between j = omega (arith, div-add-mod j k, mod-lt j some)

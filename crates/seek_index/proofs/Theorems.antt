@@ -2,20 +2,19 @@
 use mathlib.Core.Path.{_≡_, refl, sym, ap, ap₂, _∙_, subst}
 use mathlib.Core.Bool.{true}
 use mathlib.Core.List.{List, [], _∷_, _++_, append-assoc}
-use Prim.Native.Nat.{ℕ, suc, _+_, _-_, _*_, _/_, _%_, _≤_, _<_}
+use Prim.Native.Nat.{ℕ, suc, _+_, _-_, _*_, _/_, _≤_, _<_}
 use native.Mathlib.Nat.{mul-div-le, mul-le-mul-left, div-eq-of-lt, zero-div}
 use native.Mathlib.Omega.{arith}
-use lib.Dec.{eqb}
 use lib.IntN.{ℤ}
-use lib.ListN.{length, getD, take, drop, length-append}
-use lib.Seq.{take-at, drop-at, length-take-le}
+use lib.ListN.{length, getD, take, drop}
+use lib.Seq.{take-at, drop-at}
 use borrow.Author.Tests.{le-leb, lt-ltb, eq-eqb, ne-eqb}
 use Rattle.num.specs.Lists.{from}
 use Rattle.num.specs.Outcome.{outcome}
 use Rattle.num.proofs.Lists.{length-from, getD-from}
 use Rattle.num.proofs.Outcome.{number-is}
 use Rattle.ima_nibble.specs.Step.{State, sixteen, In}
-use Rattle.ima_nibble.specs.Series.{Done, after}
+use Rattle.ima_nibble.specs.Series.{after}
 use Rattle.ima4_block.specs.Block.{decodedIma4Block}
 use Rattle.ima4_block.specs.Run.{run}
 use Rattle.ima4_block.specs.Call.{finished, decodedRun, decodeIma4Run}
@@ -130,7 +129,7 @@ module _ (k : ℕ) (some : 1 ≤ k) (n : ℕ) (st : State) (inside : In sixteen 
 
 -- ---- the calls
 
--- an index that is built for k and st, of `bytes`, into a buffer `record`
+-- an index of `bytes` from st, every k-th state kept, that is built into a buffer
 module _ (st : State) (inside : In sixteen (st .predictor)) (bytes : List ℕ) (k : ℕ) (buffer : List ℕ) (done : indexIma4 st bytes k buffer .number ≡ 0) where
   abbrev n : ℕ
   n = length bytes / 34

@@ -1,32 +1,23 @@
 -- What one turn of a loop comes to: a block decoded for its state alone, the blocks between two places, and a state written. Assumes nothing.
-use mathlib.Core.Path.{_≡_, refl, sym, ap, ap₂, subst, _∙_}
+use mathlib.Core.Path.{_≡_, refl, sym, ap, ap₂, _∙_}
 use mathlib.Core.List.{List, _∷_, _++_}
 use Prim.Native.Nat.{ℕ, suc, _+_, _-_, _*_, _/_, _%_, _≤_, _<_, min}
 use native.Mathlib.Omega.{arith}
-use native.Mathlib.Nat.{div-eq-of-lt, mul-div-le}
-use lib.Dec.{leb}
 use lib.IntN.{ℤ}
 use lib.ListN.{length, set, take, drop, length-set, length-drop}
-use lib.Seq.{length-take-le, take-all, drop-drop}
-use borrow.Author.Tests.{leb-true, leb-false}
-use borrow.Table.Steps.{cases}
+use lib.Seq.{length-take-le}
 use Rattle.num.specs.Lists.{from}
 use Rattle.num.specs.Outcome.{Outcome, outcome}
-use Rattle.num.proofs.Lists.{length-from, put, whole}
+use Rattle.num.proofs.Lists.{put, whole}
 use Rattle.halves.specs.Halves.{bitsOf}
 use Rattle.ima_nibble.specs.Step.{State}
 use Rattle.ima_nibble.specs.Series.{Done}
 use Rattle.ima4_block.specs.Block.{decodedIma4Block}
-use Rattle.ima4_block.specs.Call.{finished, decodedRun, decodeIma4}
+use Rattle.ima4_block.specs.Call.{decodeIma4}
 use Rattle.ima4_block.proofs.Cut.{single}
 use Rattle.ima4_block.proofs.Lengths.{decodes}
-use Rattle.seek_index.specs.Call.{indexLength}
-use Rattle.seek_index.specs.Private.{Room}
-use Rattle.seek_index.specs.Record.{stateBefore, statesKept, keptStates, stateBytes}
+use Rattle.seek_index.specs.Record.{stateBefore, stateBytes}
 use Rattle.seek_index.proofs.Before.{onward, by-its-blocks}
-use Rattle.seek_index.proofs.Bytes.{lent-behind}
-use Rattle.seek_index.proofs.Kept.{kept-rest, none-kept}
-use Rattle.seek_index.proofs.Listed.{alike, shifted}
 
 -- the blocks from a to b, lent as bytes from s to e
 pub by-part : (own : State) (bytes : List ℕ) (a b s e : ℕ) → s ≡ 34 * a → e ≡ 34 * b → a ≤ b → 34 * b ≤ length bytes
@@ -117,99 +108,3 @@ module _ (f : ℕ → State) (m : ℕ) where
       ∙ put out (3 * i) (bitsOf (f i .predictor) / 256) (bitsOf (f i .predictor) % 256 ∷ f i .index ∷ others) (omega arith)
       ∙ ap (λ (k : ℕ). take (3 * i) out ++ stateBytes (from k i f)) (sym rest)
       ∙ upto)
-
--- ---- the states behind the first
-
--- Those of the blocks that are left behind k blocks, or behind the run if it ends before.
-module _ (k : ℕ) (some : 1 ≤ k) (own : State) (bytes : List ℕ) where
-  abbrev keptOf : ℕ → State
-  keptOf e = stateBefore own bytes (k * e)
-
-  later : (n b : ℕ) → b ≡ min k n → keptStates k (n - b) (stateBefore own bytes b) (drop (34 * b) bytes) ≡ from (statesKept k n - 1) 1 keptOf
-  unfolding from
-  later n b b-is =
-      cases (leb k n)
-      (λ t.
-      let le = leb-true k n t in
-      let first : b ≡ k = omega (arith, b-is, le) in
-      let one : k * 1 ≡ k = omega arith in
-      let count = ap (λ (x : ℕ). statesKept k (n - x)) (sym one) ∙ kept-rest k some n 1 (omega (arith, one, le)) in
-      let step : (e : ℕ) → stateBefore (stateBefore own bytes k) (drop (34 * k) bytes) (k * e) ≡ keptOf (1 + e) = λ e.
-      let next : k * (1 + e) ≡ k + k * e = omega arith in
-      let left : k * (1 + e) - k ≡ k * e = omega (arith, next) in
-      ap (stateBefore (stateBefore own bytes k) (drop (34 * k) bytes)) (sym left) ∙ onward own bytes k (k * (1 + e)) (omega (arith, next)) in
-      ap (λ (x : ℕ). keptStates k (n - x) (stateBefore own bytes x) (drop (34 * x) bytes)) first
-      ∙ alike (λ e. stateBefore (stateBefore own bytes k) (drop (34 * k) bytes) (k * e)) (λ e. keptOf (1 + e)) (statesKept k (n - k)) 0 (λ e _ _. step e)
-      ∙ shifted keptOf 1 (statesKept k (n - k)) 0
-      ∙ ap (λ (m : ℕ). from m 1 keptOf) count)
-      (λ t.
-      let lt = leb-false k n t in
-      let none : n - b ≡ 0 = omega (arith, b-is, lt) in
-      let zeros : statesKept k 0 ≡ 0 = div-eq-of-lt (omega arith) in
-      let few : statesKept k n - 1 ≡ 0 = omega (arith, none-kept k some n 1 (omega (arith, lt))) in
-      rw (none, zeros, few) refl)
-
--- what is left behind b blocks of n
-blocks-behind : (bytes : List ℕ) (n b : ℕ) → length bytes ≡ 34 * n → length (drop (34 * b) bytes) ≡ 34 * (n - b)
-blocks-behind bytes n b l = length-drop (34 * b) bytes ∙ omega arith
-
-blocks-left : (bytes : List ℕ) (n b : ℕ) → length bytes ≡ 34 * n → length (drop (34 * b) bytes) / 34 ≡ n - b
-blocks-left bytes n b l = omega (arith, blocks-behind bytes n b l)
-
--- The states after block j, from the j/k-th: the bytes up to the next one that is kept are lent from `start` to `next`, and then the rest.
-pub states-after : (k : ℕ) → 1 ≤ k → (n : ℕ) (own : State) (bytes : List ℕ) (j next : ℕ) → length bytes ≡ 34 * n → j < n
-    → let i = j / k in
-    let start = 34 * (k * i) in
-    let part = take (next - start) (drop start bytes) in
-    let rest = take (length bytes - next) (drop next bytes) in
-    next ≡ min (start + 34 * k) (length bytes)
-    → keptStates k (length rest / 34) (stateBefore own part (length part / 34)) rest
-    ≡ from (statesKept k n - suc i) (suc i) (λ e. stateBefore own (drop start bytes) (k * e - k * i))
-states-after k some n own bytes j next l h next-is =
-    let i = j / k in
-    let a = k * i in
-    let here = drop (34 * a) bytes in
-    let le : a ≤ j = mul-div-le j k in
-    let b = min k (n - a) in
-    let upto : next ≡ 34 * (a + b) = omega (arith, next-is, l, h, le) in
-    let few : b ≤ n - a = omega arith in
-    let b-is : a + b - a ≡ b = omega arith in
-    let part = by-part own bytes a (a + b) (34 * a) next refl upto (omega arith) (omega (arith, l, h, le, few)) ∙ ap (stateBefore own here) b-is in
-    let place : next ≡ 34 * a + 34 * b = omega (arith, upto) in
-    let rest = take-all (length bytes - next) (drop next bytes) (omega (arith, length-drop next bytes)) ∙ ap (λ (p : ℕ). drop p bytes) place ∙ sym (drop-drop (34 * b) (34 * a) bytes) in
-    let left = blocks-left here (n - a) b (blocks-behind bytes n a l) in
-    let count : statesKept k (n - a) - 1 ≡ statesKept k n - suc i = omega (arith, kept-rest k some n i (omega (arith, le, h))) in
-    let f : ℕ → State = λ e. stateBefore own here (k * e - a) in
-    let moved : (e : ℕ) → stateBefore own here (k * e) ≡ f (i + e) = λ e.
-    let sum : k * (i + e) ≡ a + k * e = omega arith in
-    let same : k * e ≡ k * (i + e) - a = omega (arith, sum) in
-    ap (stateBefore own here) same in
-    let one : i + 1 ≡ suc i = omega arith in
-    ap₂ (λ (st : State) (xs : List ℕ). keptStates k (length xs / 34) st xs) part rest
-    ∙ ap (λ (m : ℕ). keptStates k m (stateBefore own here b) (drop (34 * b) here)) left
-    ∙ later k some own here (n - a) b refl
-    ∙ alike (λ e. stateBefore own here (k * e)) (λ e. f (i + e)) (statesKept k (n - a) - 1) 1 (λ e _ _. moved e)
-    ∙ shifted f i (statesKept k (n - a) - 1) 1
-    ∙ ap₂ (λ (m p : ℕ). from m p f) count one
-
--- There is room for them behind the states that stay.
-pub room-after : (k : ℕ) → 1 ≤ k → k ≤ 64 → (n : ℕ) (own : State) (bytes index : List ℕ) (j next : ℕ) → length bytes ≡ 34 * n → n ≤ 1024 → j < n
-    → length index ≡ indexLength k n
-    → let kept = 7 + 3 * (j / k) in
-    let rest = take (length bytes - next) (drop next bytes) in
-    kept ≤ length index
-    → next ≡ min (34 * (k * (j / k)) + 34 * k) (length bytes)
-    → Room k rest (take (length index - kept) (drop kept index))
-room-after k some most n own bytes index j next l few h long le next-is =
-    let i = j / k in
-    let a = k * i in
-    let part = take (next - 34 * a) (drop (34 * a) bytes) in
-    let rest = take (length bytes - next) (drop next bytes) in
-    let st = stateBefore own part (length part / 34) in
-    let count : statesKept k (length rest / 34) ≡ statesKept k n - suc i =
-    sym (length-from (λ e. stateBefore st rest (k * e)) (statesKept k (length rest / 34)) 0)
-    ∙ ap length (states-after k some n own bytes j next l h next-is)
-    ∙ length-from (λ e. stateBefore own (drop (34 * a) bytes) (k * e - a)) (statesKept k n - suc i) (suc i) in
-    let size : length rest ≡ length bytes - next = lent-behind next bytes (omega (arith, next-is)) in
-    let whole : length rest ≡ 34 * (length rest / 34) = omega (arith, size, next-is, l) in
-    (omega (arith, size, l, few), whole, some, most, lent-behind (7 + 3 * i) index le ∙ omega (arith, long, count))

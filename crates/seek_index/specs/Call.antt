@@ -9,7 +9,7 @@ use Rattle.num.specs.Outcome.{Outcome, outcomeBy}
 use Rattle.ima_nibble.specs.Step.{State}
 use Rattle.ima_nibble.specs.Series.{Done}
 use Rattle.ima4_block.specs.Call.{decodedRun}
-use Rattle.seek_index.specs.Record.{stateBefore, statesKept, restLength, seekIndex, versionIn, restIn, everyIn, reached, rebuilt}
+use Rattle.seek_index.specs.Record.{stateBefore, restLength, seekIndex, versionIn, restIn, everyIn, reached, rebuilt}
 
 -- A run is 0 to 1,024 blocks of 34 bytes. 3 for the run's bytes;
 abbrev pub areRun : ℕ → Bool

@@ -1,7 +1,7 @@
 -- `seek::index_adpcm_ima_ima4` meets its contract: it writes the head, and then the states of the whole run. Assumes nothing.
 use mathlib.Core.Path.{_≡_, refl, sym, ap, ap₂, _∙_}
 use mathlib.Core.List.{List, _++_}
-use Prim.Native.Nat.{ℕ, _+_, _-_, _*_, _/_, _%_, _≤_, _<_}
+use Prim.Native.Nat.{ℕ, _+_, _-_, _*_, _/_, _≤_, _<_}
 use native.Mathlib.Omega.{arith}
 use native.Mathlib.Nat.{div-le-self}
 use lib.ListN.{length}
@@ -11,7 +11,7 @@ use Rattle.num.specs.Outcome.{outcome}
 use Rattle.seek_index.specs.Record.{restLength, recordHead, seekIndex}
 use Rattle.seek_index.specs.Call.{indexLength, indexRefusal, indexIma4}
 use Rattle.seek_index.proofs.Lengths.{index-taken}
-use Rattle.seek_index.proofs.Bytes.{put-behind, length-behind, lent-behind}
+use Rattle.seek_index.proofs.Bytes.{put-behind, lent-behind}
 use Rattle.seek.proofs.index_adpcm_ima_ima4.Statement.{statement}
 use Rattle.seek.proofs.index_adpcm_ima_ima4.Tie as tie
 

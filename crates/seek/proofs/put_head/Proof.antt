@@ -1,7 +1,7 @@
 -- `seek::put_head` meets its contract: it writes the first four bytes. Assumes nothing.
 use mathlib.Core.Path.{_≡_, ap₂, _∙_}
 use mathlib.Core.List.{List, [], _∷_}
-use Prim.Native.Nat.{ℕ, _-_, _/_, _≤_, _<_}
+use Prim.Native.Nat.{ℕ, _-_, _/_, _<_}
 use native.Mathlib.Omega.{arith}
 use lib.ListN.{length, set, length-set}
 use borrow.Author.Needs.{needs}

@@ -16,7 +16,7 @@ use Rattle.seek_index.specs.Call.{indexLength, placeRefusal, reindexIma4}
 use Rattle.seek_index.proofs.Bytes.{put-behind}
 use Rattle.seek_index.proofs.Kept.{kept-at}
 use Rattle.seek_index.proofs.Lengths.{place-taken}
-use Rattle.seek_index.proofs.Turn.{states-after, room-after}
+use Rattle.seek_index.proofs.After.{states-after, room-after}
 use Rattle.seek.proofs.reindex_adpcm_ima_ima4.Statement.{statement}
 use Rattle.seek.proofs.reindex_adpcm_ima_ima4.Tie as tie
 

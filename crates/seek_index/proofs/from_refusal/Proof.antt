@@ -1,11 +1,9 @@
 -- `seek_index::from_refusal` meets its contract: it asks about all but the samples, and then about them. Assumes nothing.
 use mathlib.Core.Path.{_≡_, refl, sym, _∙_}
-use mathlib.Core.Bool.{cond}
 use Prim.Native.Nat.{_-_, _*_, _/_, _≤_, _<_}
-use native.Mathlib.Omega.{arith}
 use borrow.Author.Needs.{needs}
 use borrow.Author.Tests.{eq-eqb, ne-eqb}
-use Rattle.seek_index.specs.Call.{placeRefusal, fromRefusal}
+use Rattle.seek_index.specs.Call.{placeRefusal}
 use Rattle.seek_index.proofs.Lengths.{place-taken, from-taken, from-refused}
 use Rattle.seek_index.proofs.from_refusal.Statement.{statement}
 use Rattle.seek_index.proofs.from_refusal.Tie as tie
