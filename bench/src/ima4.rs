@@ -53,7 +53,7 @@ fn decode(content: &Content, blocks: usize) -> Row<'_> {
     let (bytes, samples) = (blocks * BYTES, blocks * SAMPLES);
     let input = (&content.bytes[..], bytes);
     let all = content.samples.len();
-    let round = round(all, input, samples, ours::decode, oracle::decode);
+    let round = round([all; 2], input, samples, ours::decode, oracle::decode);
     Row::new("decode_ima4", content.name, (blocks, UNIT), None, round)
 }
 
@@ -61,6 +61,6 @@ fn encode(content: &Content, blocks: usize) -> Row<'_> {
     let (bytes, samples) = (blocks * BYTES, blocks * SAMPLES);
     let input = (&content.samples[..], samples);
     let all = content.samples.len();
-    let round = round(all, input, bytes, ours::encode, oracle::encode);
+    let round = round([all; 2], input, bytes, ours::encode, oracle::encode);
     Row::new("encode_ima4", content.name, (blocks, UNIT), None, round)
 }

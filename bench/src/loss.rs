@@ -65,7 +65,7 @@ pub fn rows(contents: &[Content]) -> Vec<Row<'_>> {
 fn row(content: &Content) -> Row<'_> {
     let len = content.len;
     let round = round(
-        SAMPLES,
+        [SAMPLES; 2],
         (&content.pairs, 2 * len),
         // what is written is the report
         1,

@@ -1,7 +1,8 @@
 //! Times each call of the proved library and the oracle's, and prints Markdown tables: of the calls for
-//! one value, of those for a run of ima4 blocks, of those for an MS block, of the loss report, and of how
-//! a sample's time changes from one block to a thousand. The last is drawn besides, into the file that the
-//! first argument names. What it is doing goes to standard error, so that standard output can go to a file.
+//! one value, of those for a run of ima4 blocks, of those for an MS block, of the loss report, of a seek
+//! index, and of how a sample's time changes from one block to a thousand. The last is drawn besides, into the
+//! file that the first argument names. What it is doing goes to standard error, so that standard output can go
+//! to a file.
 //!
 //! The last line names the rows in which ours takes longer for no reason that is known. The status is 1 if
 //! there are any.
@@ -25,6 +26,9 @@ mod nibble;
 mod plain;
 mod plot;
 mod rounds;
+mod seek;
+#[path = "../../tests/differential/src/seek/calls.rs"]
+mod seek_calls;
 #[path = "../../tests/differential/src/signal.rs"]
 mod signal;
 mod timing;
@@ -83,21 +87,24 @@ fn values(verdict: &mut Verdict) {
 
 fn blocks(verdict: &mut Verdict) {
     let (ima4, ms, loss) = (ima4::contents(), ms::contents(), loss::contents());
-    let growing = ms::growing();
+    let (seek, growing) = (seek::contents(), ms::growing());
     let mut tables = [
         ima4::rows(&ima4),
         ms::rows(&ms),
         loss::rows(&loss),
+        seek::decoded(&seek),
+        seek::indexed(&seek),
         ms::growth(&growing),
     ];
-    eprintln!("timing runs of ima4, MS blocks, and the loss report ..");
+    eprintln!("timing runs of ima4, MS blocks, the loss report, and a seek index ..");
     rounds::time(&mut tables);
     for row in tables.iter().flatten() {
         let name = format!("{} {} {} {}", row.call, row.content, row.number, row.unit);
         verdict.take(&name, row.best, row.reason);
     }
-    let [of_ima4, of_ms, of_loss, growing] = &tables;
+    let [of_ima4, of_ms, of_loss, decoded, indexed, growing] = &tables;
     calls(of_ima4, of_ms, of_loss);
+    jumps(decoded, indexed);
     grown(of_ima4, growing);
 }
 
@@ -108,25 +115,39 @@ fn calls(of_ima4: &[Row], of_ms: &[Row], of_loss: &[Row]) {
         ima4::BLOCKS
     );
     let shown = |row: &&Row| ima4::SHOWN.contains(&row.number);
-    table(of_ima4.iter().filter(shown).collect());
+    table("samples", of_ima4.iter().filter(shown).collect());
     println!(
         "Nanoseconds a sample, the best of {runs} runs over {} blocks of one channel, or {} of two.",
         ms::BLOCKS,
         ms::BLOCKS / 2
     );
-    table(of_ms.iter().collect());
+    table("samples", of_ms.iter().collect());
     println!(
         "Nanoseconds a pair of samples, the best of {runs} runs over {} pairs.",
         loss::SAMPLES
     );
-    table(of_loss.iter().collect());
+    table("samples", of_loss.iter().collect());
 }
 
-fn table(rows: Vec<&Row>) {
+fn jumps(decoded: &[Row], indexed: &[Row]) {
+    let (runs, stretches) = (rounds::RUNS, seek::RUNS);
+    let best = format!("nanoseconds a call, the best of {runs} runs over {stretches} stretches");
+    println!("To the last block of a stretch of speech: {best}.");
+    println!("The Rust has no index, and decodes all blocks.");
+    table("every", decoded.iter().collect());
+    println!("A seek index beside a stretch of speech: {best}.");
+    println!(
+        "The Rust is a plain loop that keeps the states, and jumps to the last block by them."
+    );
+    table("every", indexed.iter().collect());
+}
+
+/// The rows' content stands under that name.
+fn table(content: &str, rows: Vec<&Row>) {
     let unit = rows[0].unit;
     println!("{BUFFERS}");
     println!();
-    println!("| call | samples | {unit} | ours | Rust | ours / Rust | why above 1.0 |");
+    println!("| call | {content} | {unit} | ours | Rust | ours / Rust | why above 1.0 |");
     println!("|---|---|---:|---:|---:|---:|---|");
     for row in rows {
         println!(

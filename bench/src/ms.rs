@@ -108,7 +108,7 @@ fn decode(blocks: Blocks) -> Row {
     let (from, to) = lengths(channels);
     // a decoder has no state
     let round = round(
-        blocks.samples.len(),
+        [blocks.samples.len(); 2],
         (blocks.bytes, from),
         to,
         move |block, (): &mut (), samples| ours::decode(channels, block, samples),
@@ -121,7 +121,7 @@ fn encode(blocks: Blocks) -> Row {
     let channels = blocks.channels;
     let (to, from) = lengths(channels);
     let round = round(
-        blocks.samples.len(),
+        [blocks.samples.len(); 2],
         (blocks.samples, from),
         to,
         move |samples, states: &mut States, block| ours::encode(channels, samples, states, block),
@@ -137,7 +137,7 @@ fn repack(blocks: Blocks) -> Row {
     let channels = blocks.channels;
     let (bytes, _) = lengths(channels);
     let round = round(
-        blocks.samples.len(),
+        [blocks.samples.len(); 2],
         (blocks.bytes, bytes),
         bytes,
         move |block, (changed, _): &mut State, new| ours::repack(channels, block, changed, new),

@@ -19,7 +19,7 @@ pub const RUNS: usize = 201;
 /// nanoseconds each, faster than any call here that codes, that is 20 microseconds.
 pub const LEAST: usize = 1 << 16;
 
-/// Nanoseconds a sample.
+/// Nanoseconds a sample, or a call where the table says so.
 pub struct Row<'a> {
     pub call: &'static str,
     pub content: &'static str,
@@ -65,26 +65,26 @@ pub fn time(tables: &mut [Vec<Row>]) {
     }
 }
 
-/// A call takes in `from` numbers of the input, and gives `to`. So many samples go by in all of them.
+/// A call takes in `from` numbers of the input, and gives `to`. So many samples go by in all of them, in ours and
+/// in the Rust's.
 pub fn round<'a, A, S: Default, B: Clone + Default + PartialEq + 'a>(
-    samples: usize,
+    samples: [usize; 2],
     (input, from): (&'a [A], usize),
     to: usize,
     ours: impl Fn(&[A], &mut S, &mut [B]) -> u8 + 'a,
     rust: impl Fn(&[A], &mut S, &mut [B]) -> u8 + 'a,
 ) -> impl FnMut() -> (f64, f64) + 'a {
     let mut output = vec![B::default(); input.len() / from * to];
-    run(1, (input, from), (&mut output, to), &ours);
+    let [in_ours, in_rust] = samples;
+    let ours = move |output: &mut [B]| run(in_ours, (input, from), (output, to), &ours);
+    let rust = move |output: &mut [B]| run(in_rust, (input, from), (output, to), &rust);
+    ours(&mut output);
     let answers = output.clone();
-    run(1, (input, from), (&mut output, to), &rust);
+    rust(&mut output);
     assert!(answers == output, "another answer takes another time");
 
-    let passes = LEAST.div_ceil(samples);
-    let samples = (passes * samples) as f64;
     let mut ours_first = false;
     move || {
-        let ours = |output: &mut [B]| run(passes, (input, from), (output, to), &ours) / samples;
-        let rust = |output: &mut [B]| run(passes, (input, from), (output, to), &rust) / samples;
         ours_first = !ours_first;
         if ours_first {
             (ours(&mut output), rust(&mut output))
@@ -95,15 +95,16 @@ pub fn round<'a, A, S: Default, B: Clone + Default + PartialEq + 'a>(
     }
 }
 
-/// Nanoseconds of all calls: one for each `from` numbers that go in and `to` that come out, and so for
-/// every pass.
+/// Nanoseconds a sample, where so many go by in a pass: one call for each `from` numbers that go in and `to` that
+/// come out.
 #[inline(never)]
 fn run<A, S: Default, B>(
-    passes: usize,
+    samples: usize,
     (input, from): (&[A], usize),
     (output, to): (&mut [B], usize),
     call: impl Fn(&[A], &mut S, &mut [B]) -> u8,
 ) -> f64 {
+    let passes = LEAST.div_ceil(samples);
     let mut state = S::default();
     let mut refused = 0;
     let start = Instant::now();
@@ -115,5 +116,5 @@ fn run<A, S: Default, B>(
     let time = start.elapsed().as_nanos() as f64;
     black_box(state);
     assert_eq!(refused, 0, "a call that is refused takes no time");
-    time
+    time / (passes * samples) as f64
 }

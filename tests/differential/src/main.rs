@@ -32,6 +32,7 @@ mod progress;
 mod repack;
 mod report;
 mod runs;
+mod seek;
 mod signal;
 mod sweep;
 
@@ -61,6 +62,7 @@ fn main() -> ExitCode {
     let mut reports = g711::reports(chunks.is_some());
     reports.extend(adpcm_ima::reports(chunks.is_some()));
     reports.extend(ima4::reports(chunks.is_some()));
+    reports.extend(seek::reports(chunks.is_some()));
     reports.extend(ms::reports(chunks.is_some()));
     reports.extend(repack::reports(chunks.is_some()));
     reports.extend(loss::reports(chunks.is_some()));
