@@ -2,6 +2,8 @@
 //! that differs from ours, or one of times. tools/peers starts it, and finds the software.
 
 mod codec;
+// no other software has a seek index
+#[allow(dead_code)]
 #[path = "../../../bindings/rust/src/ffi.rs"]
 mod ffi;
 mod laws;
