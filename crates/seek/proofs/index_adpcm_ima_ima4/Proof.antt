@@ -24,18 +24,21 @@ returns c =
     rw (is, ne-eqb (indexRefusal (length (a .buf .now)) (a .every) (length (a .index .now))) 0 (λ e. c .if1 .taken (is ∙ e))) refl
 
 -- behind the test
-taken : (c : tie.Else1) → let a = c .before .before .before .before .args in indexRefusal (length (a .buf .now)) (a .every) (length (a .index .now)) ≡ 0
+abbrev given : tie.Else1 → tie.Start
+given c = c .before .before .before .before
+
+taken : (c : tie.Else1) → let a = given c .args in indexRefusal (length (a .buf .now)) (a .every) (length (a .index .now)) ≡ 0
 taken c = sym (c .before .index-refusal .ensures) ∙ c .if1 .left
 
-facts : (c : tie.Else1) → let a = c .before .before .before .before .args in
+facts : (c : tie.Else1) → let a = given c .args in
     let n = length (a .buf .now) / 34 in
     (n ≤ 1024) × (length (a .buf .now) ≡ 34 * n) × (1 ≤ a .every) × (a .every ≤ 64) × (length (a .index .now) ≡ indexLength (a .every) n)
-facts c = let a = c .before .before .before .before .args in index-taken (length (a .buf .now)) (a .every) (length (a .index .now)) (taken c)
+facts c = let a = given c .args in index-taken (length (a .buf .now)) (a .every) (length (a .index .now)) (taken c)
 
 -- the record is small
-size : (c : tie.Else1) → let a = c .before .before .before .before .args in (4 ≤ length (a .index .now)) × (length (a .index .now) < 65536)
+size : (c : tie.Else1) → let a = given c .args in (4 ≤ length (a .index .now)) × (length (a .index .now) < 65536)
 size c =
-    let a = c .before .before .before .before .args in
+    let a = given c .args in
     let n = length (a .buf .now) / 34 in
     let (few, _, _, most, long) = facts c in
     (omega (arith, long), omega (arith, long, few, most, div-le-self (n + (a .every - 1)) (a .every)))
@@ -44,7 +47,7 @@ size c =
 abbrev tested : tie.After-slice-known2 → tie.Else1
 tested c = c .before .before .before .before
 
-long : (c : tie.After-slice-known2) → length (c .before .before .put-head .last .0) ≡ length (tested c .before .before .before .before .args .index .now)
+long : (c : tie.After-slice-known2) → length (c .before .before .put-head .last .0) ≡ length (given (tested c) .args .index .now)
 long c = c .before .index .given
 
 room : tie.Need-keep-states-requires
@@ -62,7 +65,7 @@ unfolding indexIma4 seekIndex
 returns-2 c =
     let known = c .before .before .before .before in
     let s = tested known in
-    let a = s .before .before .before .before .args in
+    let a = given s .args in
     let index = known .before .before .put-head .last .0 in
     let kept = c .before .before .keep-states in
     let states = kept .last .1 .1 .1 .0 in

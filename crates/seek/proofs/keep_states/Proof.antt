@@ -69,11 +69,14 @@ third-place c =
     omega (arith, space test, length-set (at .loop .out) (3 * i) first, length-set (set (at .loop .out) (3 * i) first) (3 * i + 1) (c .low-half .result))
 
 -- the blocks between two states that are kept
-ordered : (c : tie.After-lesser Inv-loop μ-loop) → let test = c .before .before .before .before .before in
+abbrev turn-of : tie.After-lesser Inv-loop μ-loop → tie.In-loop Inv-loop μ-loop
+turn-of c = c .before .before .before .before .before
+
+ordered : (c : tie.After-lesser Inv-loop μ-loop) → let test = turn-of c in
     let a = start test .args in
     (34 * (a .k * test .before .loop .i) ≤ c .lesser .result) × (c .lesser .result ≤ length (a .buf .now))
 ordered c =
-    let test = c .before .before .before .before .before in
+    let test = turn-of c in
     let pre = start test .pre in
     (omega (arith, c .lesser .ensures, small test, pre .1), omega (arith, c .lesser .ensures))
 
@@ -81,7 +84,7 @@ loop-again : tie.Need-loop-again Inv-loop μ-loop
 loop-again c =
     let at-end = c .before .before in
     let at-low = at-end .before in
-    let fits : SFits w16 (at-low .before .before .before .before .before .loop .next .predictor) = search needs in
+    let fits : SFits w16 (turn-of at-end .before .loop .next .predictor) = search needs in
     let at-bits = at-low .before .before in
     let test = at-bits .before .before in
     let at = test .before in
@@ -109,7 +112,9 @@ loop-again c =
     (turn, next, size, inv .3, omega (arith, test .loop-test .taken))
 
 same-length : tie.Need-same-length Inv-loop μ-loop
-same-length c = omega (arith, c .before .loop .inv .2, c .before .loop .inv .3, c .before .before .before .before .pre)
+same-length c =
+    let at = c .before in
+    omega (arith, at .loop .inv .2, at .loop .inv .3, at .before .before .before .pre)
 
 returns : tie.Need-returns Inv-loop μ-loop
 returns c =

@@ -59,15 +59,18 @@ before c =
 abbrev tested : tie.After-state-behind → tie.Else1
 tested c = c .before .before .before .before .before .before
 
+abbrev chosen : tie.After-state-behind → tie.After-lesser
+chosen c = c .before .before .before .before
+
 abbrev next : tie.After-state-behind → ℕ
-next c = c .before .before .before .before .lesser .result
+next c = chosen c .lesser .result
 
 room : tie.Need-keep-states-requires
 room c κs =
     let s = c .before .before in
     let a = given (tested s) .args in
     let (few, whole, some, most, long, h) = facts (tested s) in
-    room-after (everyIn (a .index .now)) some most (length (a .buf .now) / 34) (stateOf (s .before .state-in .result)) (a .buf .now) (a .index .now) (a .from) (next s) whole few h long (before (tested s) .1) (s .before .before .before .before .lesser .ensures)
+    room-after (everyIn (a .index .now)) some most (length (a .buf .now) / 34) (stateOf (s .before .state-in .result)) (a .buf .now) (a .index .now) (a .from) (next s) whole few h long (before (tested s) .1) (chosen s .lesser .ensures)
 
 same-length-2 : tie.Need-same-length-2
 same-length-2 c = c .before .index .given .1
@@ -90,7 +93,7 @@ returns-2 c =
     let states =
     kept .ensures .0
     ∙ ap (λ (st : State). stateBytes (keptStates k (length rest / 34) st rest)) (s .state-behind .ensures)
-    ∙ ap stateBytes (states-after k some n own bytes j (next s) whole h (s .before .before .before .before .lesser .ensures))
+    ∙ ap stateBytes (states-after k some n own bytes j (next s) whole h (chosen s .lesser .ensures))
     ∙ ap (λ (st : State). stateBytes (from (statesKept k n - suc i) (suc i) (λ e. stateBefore st (drop (34 * (k * i)) bytes) (k * e - k * i)))) (s .before .state-in .ensures) in
     let front : 7 + 3 * i ≡ 4 + 3 * suc i = omega arith in
     rw (taken (tested s))

@@ -20,23 +20,26 @@ run c = sym (c .before .are-run .ensures) ∙ passed (c .before .are-run .result
 returns-2 : tie.Need-returns-2
 returns-2 c = rw (run (c .before .before), sym (c .before .is-every .ensures) ∙ failed (c .before .is-every .result) (c .if2 .taken)) refl
 
-every : (c : tie.Else2) → isEvery (c .before .before .before .before .args .every) ≡ true
+abbrev given : tie.Else2 → tie.Start
+given c = c .before .before .before .before
+
+every : (c : tie.Else2) → isEvery (given c .args .every) ≡ true
 every c = sym (c .before .is-every .ensures) ∙ passed (c .before .is-every .result) (c .if2 .left)
 
 few : tie.Need-index-length-requires
-few c κs = let a = c .before .before .before .before .args in (every-is (a .every) (every c) .0, run-are (a .bytes) (run (c .before .before)) .0)
+few c κs = let a = given c .args in (every-is (a .every) (every c) .0, run-are (a .bytes) (run (c .before .before)) .0)
 
 returns-3 : tie.Need-returns-3
 returns-3 c =
     let at = c .before .before in
-    let a = at .before .before .before .before .args in
+    let a = given at .args in
     let same = c .if3 .taken ∙ c .before .index-length .ensures in
     rw (run (at .before .before), every at, eq-eqb (a .size) (indexLength (a .every) (a .bytes / 34)) same) refl
 
 returns-4 : tie.Need-returns-4
 returns-4 c =
     let at = c .before .before in
-    let a = at .before .before .before .before .args in
+    let a = given at .args in
     rw (run (at .before .before), every at, ne-eqb (a .size) (indexLength (a .every) (a .bytes / 34)) (λ e. c .if3 .left (e ∙ sym (c .before .index-length .ensures)))) refl
 
 pub index-refusal-spec : {M : Type 1} → statement M

@@ -18,7 +18,7 @@ returns : tie.Need-returns
 returns c = let a = c .before .before .args in sym (no-index (a .n) (a .index .now) (c .if1 .taken))
 
 returns-2 : tie.Need-returns-2
-returns-2 c = rw (ne-eqb (versionIn (c .before .before .before .before .before .args .index .now)) 1 (c .if2 .taken)) refl
+returns-2 c = let a = c .before .before .before .before .before .args in rw (ne-eqb (versionIn (a .index .now)) 1 (c .if2 .taken)) refl
 
 -- behind the second test, and behind the third
 abbrev given : tie.Else2 → tie.Start

@@ -23,19 +23,22 @@ few c κs = run-are (c .before .before .before .args .bytes) (run c) .0
 returns-2 : tie.Need-returns-2
 returns-2 c = rw (run (c .before .before), sym (c .before .is-index .ensures) ∙ failed (c .before .is-index .result) (c .if2 .taken)) refl
 
-index : (c : tie.Else2) → let a = c .before .before .before .before .before .args in isIndex (a .bytes / 34) (a .index .now) ≡ true
+abbrev given : tie.Else2 → tie.Start
+given c = c .before .before .before .before .before
+
+index : (c : tie.Else2) → let a = given c .args in isIndex (a .bytes / 34) (a .index .now) ≡ true
 index c = sym (c .before .is-index .ensures) ∙ passed (c .before .is-index .result) (c .if2 .left)
 
 returns-3 : tie.Need-returns-3
 returns-3 c =
     let at = c .before in
-    let a = at .before .before .before .before .before .args in
+    let a = given at .args in
     rw (run (at .before .before), index at, lt-ltb (a .from) (a .bytes / 34) (c .if3 .taken)) refl
 
 returns-4 : tie.Need-returns-4
 returns-4 c =
     let at = c .before in
-    let a = at .before .before .before .before .before .args in
+    let a = given at .args in
     rw (run (at .before .before), index at, le-ltb (a .from) (a .bytes / 34) (c .if3 .left)) refl
 
 pub place-refusal-spec : {M : Type 1} → statement M
