@@ -2,13 +2,15 @@
 use mathlib.Core.Path.{_≡_, refl}
 use mathlib.Core.Bool.{Bool, true, false, cond, _&&_, and-eq-true-iff, and-false}
 use mathlib.Core.List.{List}
-use Prim.Native.Nat.{ℕ, zero, suc, _-_, _*_, _/_, _≤_, _<_}
+use Prim.Native.Nat.{ℕ, zero, suc, _+_, _-_, _*_, _/_, _≤_, _<_}
+use native.Mathlib.Nat.{mul-div-le}
 use native.Mathlib.Omega.{arith}
 use lib.Dec.{eqb, ltb, leb}
 use lib.ListN.{length}
 use borrow.Author.Tests.{eqb-true, leb-true, ltb-true, ne-eqb}
 use Rattle.seek_index.specs.Record.{restLength, versionIn, restIn, everyIn}
 use Rattle.seek_index.specs.Call.{areRun, isEvery, indexLength, indexRefusal, isIndex, placeRefusal, fromRefusal}
+use Rattle.seek_index.proofs.Kept.{kept-at}
 
 -- both tests passed
 tested : {x y : ℕ} (a b : Bool) → 1 ≤ x → 1 ≤ y → cond a (cond b 0 x) y ≡ 0 → (a ≡ true) × (b ≡ true)
@@ -51,8 +53,14 @@ no-index n index h =
     let two = eqb (versionIn index) 1 && isEvery k in
     rw (ne-eqb (length index) (indexLength k n) (λ e. omega (arith, h, e)), and-false two) refl
 
-pub place-taken : (bytes : ℕ) (index : List ℕ) (j : ℕ) → placeRefusal bytes index j ≡ 0
-    → let n = bytes / 34 in let k = everyIn index in (n ≤ 1024) × (bytes ≡ 34 * n) × (1 ≤ k) × (k ≤ 64) × (length index ≡ indexLength k n) × (j < n)
+-- an index that is used at block j
+abbrev pub Placed : ℕ → List ℕ → ℕ → Type 0
+Placed bytes index j =
+    let n = bytes / 34 in
+    let k = everyIn index in
+    (n ≤ 1024) × (bytes ≡ 34 * n) × (1 ≤ k) × (k ≤ 64) × (length index ≡ indexLength k n) × (j < n)
+
+pub place-taken : (bytes : ℕ) (index : List ℕ) (j : ℕ) → placeRefusal bytes index j ≡ 0 → Placed bytes index j
 place-taken bytes index j t =
     let n = bytes / 34 in
     let (run, fits) = tested (areRun bytes) (isIndex n index && ltb j n) (omega arith) (omega arith) t in
@@ -60,6 +68,10 @@ place-taken bytes index j t =
     let (few, whole) = run-are bytes run in
     let (some, most, sized) = index-is n index is in
     (few, whole, some, most, sized, ltb-true j n before)
+
+-- the kept state stands at or before the block, and is there
+pub place-kept : (bytes : ℕ) (index : List ℕ) (j : ℕ) → Placed bytes index j → let k = everyIn index in (k * (j / k) ≤ j) × (7 + 3 * (j / k) ≤ length index)
+place-kept bytes index j (_, _, some, _, long, h) = let k = everyIn index in (mul-div-le j k, omega (arith, long, kept-at k some (bytes / 34) j h))
 
 -- the number of a call that is not done for its samples alone
 pub from-taken : (bytes : ℕ) (index : List ℕ) (j samples : ℕ) → placeRefusal bytes index j ≡ 0 → fromRefusal bytes index j samples ≡ cond (eqb samples (64 * (bytes / 34 - j))) 0 3

@@ -1,9 +1,8 @@
 -- `seek::decode_adpcm_ima_ima4_from` meets its contract: it goes on from the kept state to block `from`, and from there to the end. Assumes nothing.
 use mathlib.Core.Path.{_≡_, refl, sym, ap, ap₂, _∙_}
 use mathlib.Core.List.{List}
-use Prim.Native.Nat.{ℕ, _+_, _-_, _*_, _/_, _≤_, _<_}
+use Prim.Native.Nat.{ℕ, _+_, _-_, _*_, _/_, _≤_}
 use native.Mathlib.Omega.{arith}
-use native.Mathlib.Nat.{mul-div-le}
 use lib.ListN.{length, take, drop, length-drop}
 use lib.Seq.{take-all}
 use borrow.Author.Needs.{needs}
@@ -14,9 +13,8 @@ use Rattle.adpcm_ima.specs.View.{stateOf}
 use Rattle.ima4_block.specs.Call.{decodeIma4Run}
 use Rattle.ima4_block.proofs.Theorems.{decode-fits}
 use Rattle.seek_index.specs.Record.{stateBefore, everyIn, reached}
-use Rattle.seek_index.specs.Call.{indexLength, fromRefusal, decodeIma4From}
-use Rattle.seek_index.proofs.Kept.{kept-at}
-use Rattle.seek_index.proofs.Lengths.{place-taken, from-done}
+use Rattle.seek_index.specs.Call.{fromRefusal, decodeIma4From}
+use Rattle.seek_index.proofs.Lengths.{Placed, place-taken, place-kept, from-done}
 use Rattle.seek_index.proofs.Turn.{by-part}
 use Rattle.seek.proofs.decode_adpcm_ima_ima4_from.Statement.{statement}
 use Rattle.seek.proofs.decode_adpcm_ima_ima4_from.Tie as tie
@@ -40,24 +38,16 @@ taken c = sym (c .before .from-refusal .ensures) ∙ c .if1 .left
 samples : (c : tie.Else1) → let a = given c .args in length (a .out-samples .now) ≡ 64 * (length (a .buf .now) / 34 - a .from)
 samples c = let a = given c .args in from-done (length (a .buf .now)) (a .index .now) (a .from) (length (a .out-samples .now)) (taken c) .1
 
-facts : (c : tie.Else1) → let a = given c .args in
-    let n = length (a .buf .now) / 34 in
-    let k = everyIn (a .index .now) in
-    (n ≤ 1024) × (length (a .buf .now) ≡ 34 * n) × (1 ≤ k) × (k ≤ 64) × (length (a .index .now) ≡ indexLength k n) × (a .from < n)
+facts : (c : tie.Else1) → let a = given c .args in Placed (length (a .buf .now)) (a .index .now) (a .from)
 facts c =
     let a = given c .args in
     place-taken (length (a .buf .now)) (a .index .now) (a .from) (from-done (length (a .buf .now)) (a .index .now) (a .from) (length (a .out-samples .now)) (taken c) .0)
 
--- the kept state stands at or before the block, and is there
+-- the kept state
 before : (c : tie.Else1) → let a = given c .args in
     let k = everyIn (a .index .now) in
     (k * (a .from / k) ≤ a .from) × (7 + 3 * (a .from / k) ≤ length (a .index .now))
-before c =
-    let a = given c .args in
-    let k = everyIn (a .index .now) in
-    let n = length (a .buf .now) / 34 in
-    let (_, _, some, _, long, h) = facts c in
-    (mul-div-le (a .from) k, omega (arith, long, kept-at k some n (a .from) h))
+before c = let a = given c .args in place-kept (length (a .buf .now)) (a .index .now) (a .from) (facts c)
 
 same-length : tie.Need-same-length
 same-length c = c .out-samples .given

@@ -1,9 +1,8 @@
 -- `seek::reindex_adpcm_ima_ima4` meets its contract: it goes on from the kept state to the next one, and keeps the states from there on. Assumes nothing.
 use mathlib.Core.Path.{_≡_, refl, sym, ap, ap₂, _∙_}
 use mathlib.Core.List.{List, _++_}
-use Prim.Native.Nat.{ℕ, suc, _+_, _-_, _*_, _/_, _≤_, _<_}
+use Prim.Native.Nat.{ℕ, suc, _+_, _-_, _*_, _/_, _≤_}
 use native.Mathlib.Omega.{arith}
-use native.Mathlib.Nat.{mul-div-le}
 use lib.ListN.{length, take, drop}
 use borrow.Author.Needs.{needs}
 use borrow.Author.Tests.{ne-eqb}
@@ -12,10 +11,9 @@ use Rattle.num.specs.Outcome.{outcome}
 use Rattle.ima_nibble.specs.Step.{State}
 use Rattle.adpcm_ima.specs.View.{stateOf}
 use Rattle.seek_index.specs.Record.{stateBefore, statesKept, keptStates, stateBytes, everyIn, reached, rebuilt}
-use Rattle.seek_index.specs.Call.{indexLength, placeRefusal, reindexIma4}
+use Rattle.seek_index.specs.Call.{placeRefusal, reindexIma4}
 use Rattle.seek_index.proofs.Bytes.{put-behind}
-use Rattle.seek_index.proofs.Kept.{kept-at}
-use Rattle.seek_index.proofs.Lengths.{place-taken}
+use Rattle.seek_index.proofs.Lengths.{Placed, place-taken, place-kept}
 use Rattle.seek_index.proofs.After.{states-after, room-after}
 use Rattle.seek.proofs.reindex_adpcm_ima_ima4.Statement.{statement}
 use Rattle.seek.proofs.reindex_adpcm_ima_ima4.Tie as tie
@@ -38,22 +36,14 @@ given c = c .before .before .before .before .before
 taken : (c : tie.Else1) → let a = given c .args in placeRefusal (length (a .buf .now)) (a .index .now) (a .from) ≡ 0
 taken c = sym (c .before .place-refusal .ensures) ∙ c .if1 .left
 
-facts : (c : tie.Else1) → let a = given c .args in
-    let n = length (a .buf .now) / 34 in
-    let k = everyIn (a .index .now) in
-    (n ≤ 1024) × (length (a .buf .now) ≡ 34 * n) × (1 ≤ k) × (k ≤ 64) × (length (a .index .now) ≡ indexLength k n) × (a .from < n)
+facts : (c : tie.Else1) → let a = given c .args in Placed (length (a .buf .now)) (a .index .now) (a .from)
 facts c = let a = given c .args in place-taken (length (a .buf .now)) (a .index .now) (a .from) (taken c)
 
--- the kept state stands at or before the block, and is there
+-- the kept state
 before : (c : tie.Else1) → let a = given c .args in
     let k = everyIn (a .index .now) in
     (k * (a .from / k) ≤ a .from) × (7 + 3 * (a .from / k) ≤ length (a .index .now))
-before c =
-    let a = given c .args in
-    let k = everyIn (a .index .now) in
-    let n = length (a .buf .now) / 34 in
-    let (_, _, some, _, long, h) = facts c in
-    (mul-div-le (a .from) k, omega (arith, long, kept-at k some n (a .from) h))
+before c = let a = given c .args in place-kept (length (a .buf .now)) (a .index .now) (a .from) (facts c)
 
 -- from where the state before the rest is known
 abbrev tested : tie.After-state-behind → tie.Else1
