@@ -95,22 +95,22 @@ module _ (k : ℕ) (some : 1 ≤ k) (n : ℕ) (st : State) (inside : In sixteen 
   abbrev i : ℕ
   i = suc (j / k)
 
-  abbrev m : ℕ
-  m = statesKept k n
+  abbrev all-states : ℕ
+  all-states = statesKept k n
 
-  in-parts : (bytes : List ℕ) → seekIndex k n st bytes ≡ (recordHead k (restLength k n) ++ stateBytes (from i 0 (keptState k st bytes))) ++ stateBytes (from (m - i) i (keptState k st bytes))
+  in-parts : (bytes : List ℕ) → seekIndex k n st bytes ≡ (recordHead k (restLength k n) ++ stateBytes (from i 0 (keptState k st bytes))) ++ stateBytes (from (all-states - i) i (keptState k st bytes))
   unfolding seekIndex
   in-parts bytes =
       let xs = from i 0 (keptState k st bytes) in
-      let ys = from (m - i) i (keptState k st bytes) in
-      ap (λ (sts : List State). recordHead k (restLength k n) ++ stateBytes sts) (in-two (keptState k st bytes) i m (kept-at k some n j h))
+      let ys = from (all-states - i) i (keptState k st bytes) in
+      ap (λ (sts : List State). recordHead k (restLength k n) ++ stateBytes sts) (in-two (keptState k st bytes) i all-states (kept-at k some n j h))
       ∙ ap (λ (bs : List ℕ). recordHead k (restLength k n) ++ bs) (bytes-append xs ys)
       ∙ sym (append-assoc (recordHead k (restLength k n)) (stateBytes xs) (stateBytes ys))
 
   stays : take (4 + 3 * i) (seekIndex k n st old) ≡ recordHead k (restLength k n) ++ stateBytes (from i 0 (keptState k st new))
   stays =
       let xs = from i 0 (keptState k st old) in
-      let ys = stateBytes (from (m - i) i (keptState k st old)) in
+      let ys = stateBytes (from (all-states - i) i (keptState k st old)) in
       let front = recordHead k (restLength k n) ++ stateBytes xs in
       let long : length front ≡ 4 + 3 * i = omega (arith, bytes-length xs, length-from (keptState k st old) i 0) in
       ap (take (4 + 3 * i)) (in-parts old)
@@ -118,9 +118,9 @@ module _ (k : ℕ) (some : 1 ≤ k) (n : ℕ) (st : State) (inside : In sixteen 
       ∙ ap (λ (sts : List State). recordHead k (restLength k n) ++ stateBytes sts)
       (alike (keptState k st old) (keptState k st new) i 0 (λ p l u. same (k * p) (omega (arith, mul-le-mul-left {m = p} {n = j / k} k (omega arith), mul-div-le j k))))
 
-  anew : from (m - i) i (λ e. reached (seekIndex k n st old) new j (k * e)) ≡ from (m - i) i (keptState k st new)
+  anew : from (all-states - i) i (λ e. reached (seekIndex k n st old) new j (k * e)) ≡ from (all-states - i) i (keptState k st new)
   anew =
-      alike (λ e. reached (seekIndex k n st old) new j (k * e)) (keptState k st new) (m - i) i
+      alike (λ e. reached (seekIndex k n st old) new j (k * e)) (keptState k st new) (all-states - i) i
       (λ p l u. reaches k some n st inside old new j h (same (k * (j / k)) (mul-div-le j k)) (k * p) (mul-le-mul-left {m = j / k} {n = p} k (omega arith)))
 
   rebuilds : rebuilt n (seekIndex k n st old) new j ≡ seekIndex k n st new

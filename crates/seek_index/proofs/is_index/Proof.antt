@@ -24,11 +24,11 @@ returns-2 c = let a = c .before .before .before .before .before .args in rw (ne-
 abbrev given : tie.Else2 → tie.Start
 given c = c .before .before .before .before .before
 
-version : (c : tie.Else2) → eqb (versionIn (given c .args .index .now)) 1 ≡ true
-version c = eq-eqb (versionIn (given c .args .index .now)) 1 (c .if2 .left)
+of-version-1 : (c : tie.Else2) → eqb (versionIn (given c .args .index .now)) 1 ≡ true
+of-version-1 c = eq-eqb (versionIn (given c .args .index .now)) 1 (c .if2 .left)
 
 returns-3 : tie.Need-returns-3
-returns-3 c = rw (version (c .before .before), sym (c .before .is-every .ensures) ∙ failed (c .before .is-every .result) (c .if3 .taken)) refl
+returns-3 c = rw (of-version-1 (c .before .before), sym (c .before .is-every .ensures) ∙ failed (c .before .is-every .result) (c .if3 .taken)) refl
 
 every : (c : tie.Else3) → isEvery (everyIn (given (c .before .before) .args .index .now)) ≡ true
 every c = sym (c .before .is-every .ensures) ∙ passed (c .before .is-every .result) (c .if3 .left)
@@ -41,7 +41,7 @@ returns-4 c =
     let at = c .before .before in
     let a = given (at .before .before) .args in
     let other = ne-eqb (length (a .index .now)) (indexLength (everyIn (a .index .now)) (a .n)) (λ e. c .if4 .taken (e ∙ sym (c .before .index-length .ensures))) in
-    rw (version (at .before .before), every at, other) refl
+    rw (of-version-1 (at .before .before), every at, other) refl
 
 returns-5 : tie.Need-returns-5
 returns-5 c =
@@ -51,7 +51,7 @@ returns-5 c =
     let k = everyIn (a .index .now) in
     let sized : length (a .index .now) ≡ indexLength k (a .n) = last .if4 .left ∙ last .before .index-length .ensures in
     let rest : length (a .index .now) - 2 ≡ restLength k (a .n) = omega (arith, sized) in
-    rw (version (at .before .before), every at, eq-eqb (length (a .index .now)) (indexLength k (a .n)) sized) (ap₂ eqb (c .length-of .ensures) rest)
+    rw (of-version-1 (at .before .before), every at, eq-eqb (length (a .index .now)) (indexLength k (a .n)) sized) (ap₂ eqb (c .length-of .ensures) rest)
 
 pub is-index-spec : {M : Type 1} → statement M
 is-index-spec =
