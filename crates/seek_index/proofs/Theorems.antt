@@ -171,9 +171,9 @@ module _ (st : State) (inside : In sixteen (st .predictor)) (bytes : List ℕ) (
   pub reindexes : (new : List ℕ) → length new ≡ length bytes → (j : ℕ) → j < n → take (34 * j) bytes ≡ take (34 * j) new
       → reindexIma4 new j (indexIma4 st bytes k buffer .buffer) ≡ outcome 0 tt (indexIma4 st new k buffer .buffer)
   unfolding reindexIma4 indexIma4
-  reindexes new e j h alike =
+  reindexes new e j h front =
       let (few, size, some, most, _) = facts in
-      let same = same-before st bytes new j (omega (arith, size)) (omega (arith, size, e)) alike in
+      let same = same-before st bytes new j (omega (arith, size)) (omega (arith, size, e)) front in
       rw (taken, place new e j h, e, taken) (ap (outcome 0 tt) (rebuilds k some n st inside bytes new j h same))
 
 -- The state of decoding from a block is written only: what is given counts where the call is refused.

@@ -52,7 +52,7 @@ everyIn index = getD index 3 0
 abbrev pub stateIn : List ℕ → ℕ → State
 stateIn index i = let three = drop (4 + 3 * i) index in state (fromHalves (getD three 0 0) (getD three 1 0)) (getD three 2 0)
 
--- The kept state at or before block j is the j/k-th. The state before a block b that is not before it is reached from there.
+-- The kept state at or before block j is the j/k-th, which stands before block k(j/k). The state before that block or a later one, b, is reached from there.
 unfoldable pub reached : List ℕ → List ℕ → ℕ → ℕ → State
 reached index bytes j b = let k = everyIn index in let i = j / k in stateBefore (stateIn index i) (drop (34 * (k * i)) bytes) (b - k * i)
 
