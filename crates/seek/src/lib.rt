@@ -1,4 +1,4 @@
-// A seek index beside an ima4 run: built, rebuilt, and decoded by way of. A state goes in by value and comes back.
+// A seek index beside an ima4 run, built, rebuilt, and decoded by way of. A state goes in by value and comes back.
 use adpcm_ima::AdpcmImaState;
 use halves::bits_of;
 use halves::from_halves;

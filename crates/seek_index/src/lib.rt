@@ -1,4 +1,4 @@
-// What the calls of a seek index take: the run's bytes, k, the record, the place and the samples.
+// What a seek index beside an ima4 run is, and what its calls take: the bytes, k, the record, the block and the samples.
 ghost use mathlib.Core.Path.{_≡_};
 ghost use Prim.Native.Nat.{_+_, _*_, _≤_};
 ghost use Rattle.seek_index.specs.Call.{areRun, isEvery, indexLength, isIndex, indexRefusal, placeRefusal, fromRefusal};
