@@ -5,7 +5,6 @@ use halves::from_halves;
 use halves::high_half;
 use halves::low_half;
 use ima4_call::Answer;
-use ima4_decode::decode_adpcm_ima_ima4;
 use ima4_decode::decode_adpcm_ima_ima4_run;
 use num::lesser;
 use seek_index::from_refusal;
@@ -113,7 +112,7 @@ fn state_behind(buf: &[u8], state: AdpcmImaState) -> AdpcmImaState
     let mut next = state;
     let mut i = 0;
     while i < n {
-        let block = decode_adpcm_ima_ima4(&buf[34 * i..34 * i + 34], next, &mut samples);
+        let block = decode_adpcm_ima_ima4_run(&buf[34 * i..34 * i + 34], next, &mut samples);
         next = block.state;
         i += 1;
     }

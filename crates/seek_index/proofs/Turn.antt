@@ -12,10 +12,8 @@ use Rattle.num.proofs.Lists.{put, whole}
 use Rattle.halves.specs.Halves.{bitsOf}
 use Rattle.ima_nibble.specs.Step.{State}
 use Rattle.ima_nibble.specs.Series.{Done}
-use Rattle.ima4_block.specs.Block.{decodedIma4Block}
-use Rattle.ima4_block.specs.Call.{decodeIma4}
-use Rattle.ima4_block.proofs.Cut.{single}
-use Rattle.ima4_block.proofs.Lengths.{decodes}
+use Rattle.ima4_block.specs.Call.{decodeIma4Run}
+use Rattle.ima4_block.proofs.Theorems.{decode-fits}
 use Rattle.seek_index.specs.Record.{stateBefore, stateBytes}
 use Rattle.seek_index.proofs.Before.{onward, by-its-blocks}
 
@@ -34,9 +32,9 @@ by-part own bytes a b s e s-is e-is h l =
     ∙ sym (ap (λ (r : Done ℤ). r .end) (by-its-blocks own here (b - a) room))
 
 module _ (st : State) (bytes : List ℕ) where
-  -- one block
+  -- one block, as a run
   pub next-state : (n i : ℕ) (own next : State) (number : ℕ) (out ys : List ℤ)
-      → outcome number next ys ≡ decodeIma4 own (take (34 * i + 34 - 34 * i) (drop (34 * i) bytes)) out
+      → outcome number next ys ≡ decodeIma4Run own (take (34 * i + 34 - 34 * i) (drop (34 * i) bytes)) out
       → length out ≡ 64
       → i < n
       → 34 * n ≤ length bytes
@@ -44,11 +42,12 @@ module _ (st : State) (bytes : List ℕ) where
       → next ≡ stateBefore st bytes (i + 1)
   next-state n i own next number out ys is o h l own-is =
       let here = drop (34 * i) bytes in
-      let whole : 34 * i + 34 - 34 * i ≡ 34 = omega arith in
+      let one : 34 * i + 34 - 34 * i ≡ 34 * 1 = omega arith in
       let more : i + 1 - i ≡ 1 = omega arith in
-      let block-is = ap (λ (k : ℕ). decodeIma4 own (take k here) out) whole ∙ decodes own (take 34 here) out (length-take-le 34 here (omega (arith, length-drop (34 * i) bytes))) o in
+      let room : 34 * 1 ≤ length here = omega (arith, length-drop (34 * i) bytes) in
+      let block-is = ap (λ (k : ℕ). decodeIma4Run own (take k here) out) one ∙ decode-fits 1 (omega arith) own (take (34 * 1) here) out (length-take-le (34 * 1) here room) o in
       ap (λ (r : Outcome State (List ℤ)). r .back) (is ∙ block-is)
-      ∙ sym (ap (λ (r : Done ℤ). r .end) (single decodedIma4Block 34 own here))
+      ∙ sym (ap (λ (r : Done ℤ). r .end) (by-its-blocks own here 1 room))
       ∙ ap (λ (s : State). stateBefore s here 1) own-is
       ∙ ap (stateBefore (stateBefore st bytes i) here) (sym more)
       ∙ onward st bytes i (i + 1) (omega arith)

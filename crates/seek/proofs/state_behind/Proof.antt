@@ -27,7 +27,7 @@ loop-again c =
     let at = test .before in
     let a = at .before .before .args in
     let inv = at .loop .inv in
-    let call = c .before .before .decode-adpcm-ima-ima4 in
+    let call = c .before .before .decode-adpcm-ima-ima4-run in
     let h = test .loop-test .taken in
     let turn = next-state (stateOf (a .state)) (a .buf .now) (length (a .buf .now) / 34) (at .loop .i) (stateOf (at .loop .next)) (stateOf (call .result .state)) (call .result .refusal) (at .loop .samples) (call .last .1 .1 .0) (call .ensures) (inv .1) h (omega arith) (inv .0) in
     (turn, c .before .samples2 .given, omega (arith, h))
