@@ -1,4 +1,4 @@
--- What the numbers of the three calls say where they are 0. Assumes nothing.
+-- What the numbers of the three calls say: which is tested first, and what is so where they are 0. Assumes nothing.
 use mathlib.Core.Path.{_≡_, refl}
 use mathlib.Core.Bool.{Bool, true, false, cond, _&&_, and-eq-true-iff, and-false}
 use mathlib.Core.List.{List}
@@ -11,6 +11,13 @@ use borrow.Author.Tests.{eqb-true, leb-true, ltb-true, ne-eqb}
 use Rattle.seek_index.specs.Record.{restLength, versionIn, restIn, everyIn}
 use Rattle.seek_index.specs.Call.{areRun, isEvery, indexLength, indexRefusal, isIndex, placeRefusal, fromRefusal}
 use Rattle.seek_index.proofs.Kept.{kept-at}
+
+-- The run's bytes are tested first: whatever else is given, they are refused by 3.
+pub bytes-first : (bytes : ℕ) → areRun bytes ≡ false
+    → ((k size : ℕ) → indexRefusal bytes k size ≡ 3)
+    × ((index : List ℕ) (j : ℕ) → placeRefusal bytes index j ≡ 3)
+    × ((index : List ℕ) (j samples : ℕ) → fromRefusal bytes index j samples ≡ 3)
+bytes-first bytes t = (λ k size. rw t refl, λ index j. rw t refl, λ index j samples. rw t refl)
 
 -- both tests passed
 tested : {x y : ℕ} (a b : Bool) → 1 ≤ x → 1 ≤ y → cond a (cond b 0 x) y ≡ 0 → (a ≡ true) × (b ≡ true)

@@ -1,4 +1,4 @@
--- `seek_index::is_index` meets its contract: its tests are the definition's, and a record below four bytes has none of the lengths. Assumes nothing.
+-- `seek_call::is_index` meets its contract: its tests are the definition's, and a record below four bytes has none of the lengths. Assumes nothing.
 use mathlib.Core.Path.{_≡_, refl, sym, ap₂, _∙_}
 use mathlib.Core.Bool.{true}
 use Prim.Native.Nat.{_-_}
@@ -8,11 +8,11 @@ use lib.ListN.{length}
 use borrow.Author.Needs.{needs}
 use borrow.Author.Tests.{eq-eqb, ne-eqb}
 use Rattle.ima4_block.proofs.Lengths.{failed, passed}
 use Rattle.seek_index.specs.Record.{versionIn, restLength, everyIn}
 use Rattle.seek_index.specs.Call.{isEvery, indexLength}
 use Rattle.seek_index.proofs.Lengths.{every-is, no-index}
-use Rattle.seek_index.proofs.is_index.Statement.{statement}
-use Rattle.seek_index.proofs.is_index.Tie as tie
+use Rattle.seek_call.proofs.is_index.Statement.{statement}
+use Rattle.seek_call.proofs.is_index.Tie as tie
 
 returns : tie.Need-returns
 returns c = let a = c .before .before .args in sym (no-index (a .n) (a .index .now) (c .if1 .taken))

@@ -1,12 +1,12 @@
--- `seek_index::from_refusal` meets its contract: it asks about all but the samples, and then about them. Assumes nothing.
+-- `seek_call::from_refusal` meets its contract: it asks about all but the samples, and then about them. Assumes nothing.
 use mathlib.Core.Path.{_≡_, refl, sym, _∙_}
 use Prim.Native.Nat.{_-_, _*_, _/_, _≤_, _<_}
 use borrow.Author.Needs.{needs}
 use borrow.Author.Tests.{eq-eqb, ne-eqb}
 use Rattle.seek_index.specs.Call.{placeRefusal}
 use Rattle.seek_index.proofs.Lengths.{place-taken, from-taken, from-refused}
-use Rattle.seek_index.proofs.from_refusal.Statement.{statement}
-use Rattle.seek_index.proofs.from_refusal.Tie as tie
+use Rattle.seek_call.proofs.from_refusal.Statement.{statement}
+use Rattle.seek_call.proofs.from_refusal.Tie as tie
 
 returns : tie.Need-returns
 returns c =

@@ -1,14 +1,14 @@
--- `seek_index::place_refusal` meets its contract: its tests are the definition's. Assumes nothing.
+-- `seek_call::place_refusal` meets its contract: its tests are the definition's. Assumes nothing.
 use mathlib.Core.Path.{_≡_, refl, sym, _∙_}
 use mathlib.Core.Bool.{true}
 use Prim.Native.Nat.{_/_}
 use borrow.Author.Needs.{needs}
 use borrow.Author.Tests.{lt-ltb, le-ltb}
 use Rattle.ima4_block.proofs.Lengths.{failed, passed}
 use Rattle.seek_index.specs.Call.{areRun, isIndex}
 use Rattle.seek_index.proofs.Lengths.{run-are}
-use Rattle.seek_index.proofs.place_refusal.Statement.{statement}
-use Rattle.seek_index.proofs.place_refusal.Tie as tie
+use Rattle.seek_call.proofs.place_refusal.Statement.{statement}
+use Rattle.seek_call.proofs.place_refusal.Tie as tie
 
 returns : tie.Need-returns
 returns c = rw (sym (c .before .are-run .ensures) ∙ failed (c .before .are-run .result) (c .if1 .taken)) refl

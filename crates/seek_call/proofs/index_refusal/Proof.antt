@@ -1,14 +1,14 @@
--- `seek_index::index_refusal` meets its contract: its tests are the definition's. Assumes nothing.
+-- `seek_call::index_refusal` meets its contract: its tests are the definition's. Assumes nothing.
 use mathlib.Core.Path.{_≡_, refl, sym, _∙_}
 use mathlib.Core.Bool.{true}
 use Prim.Native.Nat.{_/_}
 use borrow.Author.Needs.{needs}
 use borrow.Author.Tests.{eq-eqb, ne-eqb}
 use Rattle.ima4_block.proofs.Lengths.{failed, passed}
 use Rattle.seek_index.specs.Call.{areRun, isEvery, indexLength}
 use Rattle.seek_index.proofs.Lengths.{run-are, every-is}
-use Rattle.seek_index.proofs.index_refusal.Statement.{statement}
-use Rattle.seek_index.proofs.index_refusal.Tie as tie
+use Rattle.seek_call.proofs.index_refusal.Statement.{statement}
+use Rattle.seek_call.proofs.index_refusal.Tie as tie
 
 returns : tie.Need-returns
 returns c = rw (sym (c .before .are-run .ensures) ∙ failed (c .before .are-run .result) (c .if1 .taken)) refl

@@ -1,11 +1,11 @@
--- `seek_index::are_run` meets its contract: its two tests are the definition's. Assumes nothing.
+-- `seek_call::are_run` meets its contract: its two tests are the definition's. Assumes nothing.
 use mathlib.Core.Path.{refl}
 use Prim.Native.Nat.{_/_}
 use native.Mathlib.Omega.{arith}
 use borrow.Author.Needs.{needs}
 use borrow.Author.Tests.{le-leb, lt-leb}
-use Rattle.seek_index.proofs.are_run.Statement.{statement}
-use Rattle.seek_index.proofs.are_run.Tie as tie
+use Rattle.seek_call.proofs.are_run.Statement.{statement}
+use Rattle.seek_call.proofs.are_run.Tie as tie
 
 returns : tie.Need-returns
 returns c = rw (lt-leb (c .before .args .bytes / 34) 1024 (c .if1 .taken)) refl

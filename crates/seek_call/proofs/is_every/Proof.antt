@@ -1,8 +1,8 @@
--- `seek_index::is_every` meets its contract: its two tests are the definition's. Assumes nothing.
+-- `seek_call::is_every` meets its contract: its two tests are the definition's. Assumes nothing.
 use mathlib.Core.Path.{refl}
 use borrow.Author.Tests.{le-leb, lt-leb}
-use Rattle.seek_index.proofs.is_every.Statement.{statement}
-use Rattle.seek_index.proofs.is_every.Tie as tie
+use Rattle.seek_call.proofs.is_every.Statement.{statement}
+use Rattle.seek_call.proofs.is_every.Tie as tie
 
 returns : tie.Need-returns
 returns c = rw (lt-leb 1 (c .before .args .every) (c .if1 .taken)) refl
