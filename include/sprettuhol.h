@@ -219,8 +219,8 @@ uint8_t spr_repack_ms(uint8_t channels, const uint8_t *block, size_t block_len, 
 /* What differs between two runs of equal length, 0 to 131,063 samples.
  *
  * Reads both runs, which may be one. Writes to `count` how many places differ, to `first` the first of them,
- * counted from 0, or SPR_NOWHERE, and to `peak` the largest absolute difference, 0 if there is none, and 32,767
- * if it is above that.
+ * counted from 0, or SPR_NOWHERE, and to `peak` the largest absolute difference, 0 if there is none. The peak is
+ * up to 65,535, and must never be stored in a signed 16-bit number.
  *
  * SPR_REFUSED_LENGTHS: the lengths differ, or are above 131,063. Then none of the three numbers changes. */
 uint8_t spr_loss(const int16_t *before, size_t before_len, const int16_t *after, size_t after_len,

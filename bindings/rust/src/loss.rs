@@ -10,7 +10,8 @@ pub struct Loss {
     pub count: u32,
     /// The first of them, counted from 0, or `None` if there is none.
     pub first: Option<u32>,
-    /// The largest absolute difference, 0 if there is none. One above 32,767 is reported as 32,767.
+    /// The largest absolute difference, 0 if there is none. It is up to 65,535, and must never be stored in a
+    /// signed 16-bit number.
     pub peak: u16,
 }
 
@@ -29,7 +30,7 @@ pub struct Loss {
 /// let same = Loss { count: 0, first: None, peak: 0 };
 /// assert_eq!(loss_report(&[0, 11, 17], &[0, 11, 17]), Ok(same));
 ///
-/// assert_eq!(loss_report(&[i16::MIN], &[i16::MAX])?.peak, 32767);
+/// assert_eq!(loss_report(&[i16::MIN], &[i16::MAX])?.peak, 65_535);
 /// assert_eq!(loss_report(&[0, 11, 17], &[0, 11]), Err(Refusal::Lengths));
 /// assert_eq!(loss_report(&[0; 131_064], &[0; 131_064]), Err(Refusal::Lengths));
 /// # Ok::<(), Refusal>(())

@@ -1,4 +1,4 @@
--- What the definitions say of two runs: of one place and of those behind it, and of a stretch and of what is behind that. Assumes nothing.
+-- What the definitions say of two samples, and of two runs: of one place and of those behind it, and of a stretch and of what is behind that. Assumes nothing.
 use mathlib.Core.Path.{_≡_, refl, sym, ap, _∙_}
 use mathlib.Core.List.{List, [], _∷_, _++_}
 use mathlib.Core.Option.{Option, none, some}
@@ -9,11 +9,20 @@ use lib.Dec.{eqb}
 use lib.IntN.{ℤ, pos}
 use lib.ListN.{length, getD, take, drop, drop-of-length-le}
 use lib.Seq.{drop-cons}
+use mir.Syntax.{w16}
+use mir.Val.{SFits}
 use borrow.Author.Tests.{le-leb, eq-eqb, ne-eqb}
 use borrow.Table.Steps.{cases}
 use Rattle.num.specs.Outcome.{outcome}
-use Rattle.loss.specs.Loss.{distance, distances, countOf, firstFrom, firstOf, largest, capped, report, reportOf, lossReport}
+use Rattle.num.proofs.Signed.{apart-le}
+use Rattle.loss.specs.Loss.{distance, distances, countOf, firstFrom, firstOf, largest, report, reportOf, lossReport}
 use Rattle.loss.specs.Private.{rest, Sees}
+
+-- ---- two samples
+
+-- 16 bits without a sign hold their difference
+pub near : {x y : ℤ} → SFits w16 x → SFits w16 y → distance x y < 65536
+near {x} {y} f g = omega (arith, apart-le x y, f .sfits, g .sfits)
 
 -- ---- differences, one list behind another
 
@@ -87,10 +96,9 @@ module _ (xs ys : List ℤ) (same : length xs ≡ length ys) where
     unfolding lossReport
     taken = rw (eq-eqb (length xs) (length ys) same, le-leb (length xs) 131063 few) refl
 
-    pub reports : (alike : ℕ) {count most peak : ℕ} {place : Option ℕ}
+    pub reports : (alike : ℕ) {count most : ℕ} {place : Option ℕ}
         → Sees (distances xs ys) count most
         → place ≡ firstFrom alike (rest xs ys alike)
         → firstFrom alike (rest xs ys alike) ≡ firstOf (distances xs ys)
-        → peak ≡ capped most
-        → outcome 0 (report count place peak) tt ≡ lossReport xs ys
-    reports alike s p e k = rw (p ∙ e, k, s .counts, s .tops) (sym taken)
+        → outcome 0 (report count place most) tt ≡ lossReport xs ys
+    reports alike s p e = rw (p ∙ e, s .counts, s .tops) (sym taken)

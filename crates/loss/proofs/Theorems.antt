@@ -1,20 +1,24 @@
--- What the report says of equal runs, and of no others. Assumes nothing.
+-- What the report says of equal runs, and of no others; and that its peak is the true one. Assumes nothing.
 use mathlib.Core.Path.{_≡_, refl, sym, ap, ap₂, _∙_}
 use mathlib.Core.List.{List, [], _∷_}
-use mathlib.Core.Option.{Option, none, Option·some-injective, Option·some-ne-none}
-use Prim.Native.Nat.{ℕ, suc, _≤_}
+use mathlib.Core.Option.{Option, none, some, Option·some-injective, Option·some-ne-none}
+use Prim.Native.Nat.{ℕ, zero, suc, _≤_}
 use native.Mathlib.Omega.{arith}
-use lib.Dec.{eqb}
+use lib.Dec.{eqb, leb}
 use lib.IntN.{ℤ, pos, negsuc, natAbs, _+ℤ_, _-ℤ_, +ℤ-idl, +ℤ-invr, -ℤ-+ℤ-cancel}
-use lib.ListN.{length}
-use borrow.Author.Tests.{eqb-true}
+use lib.ListN.{length, getD}
+use mir.Syntax.{w16}
+use mir.Val.{SFits}
+use borrow.Author.Tests.{eqb-true, leb-true, leb-false}
 use borrow.Table.Steps.{cases}
+use Rattle.num.specs.Lists.{All}
 use Rattle.num.specs.Outcome.{Outcome, outcome, Faithful}
+use Rattle.num.proofs.Lists.{all-at}
 use Rattle.loss.specs.declared.First.{First}
 use Rattle.loss.specs.declared.Loss.{Loss}
 use Rattle.loss.specs.declared.First.the-variants.{At, Nowhere}
 use Rattle.loss.specs.Loss.{Report, placeOf, distance, distances, countOf, firstFrom, largest, report, reportOf, lossReport}
-use Rattle.loss.proofs.Places.{taken}
+use Rattle.loss.proofs.Places.{near, taken}
 
 -- ---- two samples
 
@@ -56,6 +60,64 @@ module _ (xs ys : List ℤ) (same : length xs ≡ length ys) (few : length xs �
   none-if-equal e =
       let (c, f, l) = nothing xs 0 in
       taken xs ys same few ∙ ap (λ (zs : List ℤ). outcome 0 (reportOf (distances xs zs)) tt) (sym e) ∙ rw (c, f, l) refl
+
+-- ---- the peak
+
+-- A place where two runs are that far apart. Behind their end both read as 0.
+pub record Somewhere (xs ys : List ℤ) (d : ℕ) : Type 0 where
+  pub place : ℕ
+  pub apart : distance (getD xs place (pos 0)) (getD ys place (pos 0)) ≡ d
+
+nowhere-more : (xs ys : List ℤ) → length xs ≡ length ys → (i : ℕ) → distance (getD xs i (pos 0)) (getD ys i (pos 0)) ≤ largest (distances xs ys)
+unfolding distances largest
+nowhere-more [] [] l i = omega arith
+nowhere-more [] (y ∷ ys) l i = absurd (omega arith)
+nowhere-more (x ∷ xs) [] l i = absurd (omega arith)
+nowhere-more (x ∷ xs) (y ∷ ys) l zero = omega arith
+nowhere-more (x ∷ xs) (y ∷ ys) l (suc i) = omega (arith, nowhere-more xs ys (omega arith) i)
+
+somewhere : (xs ys : List ℤ) → length xs ≡ length ys → Somewhere xs ys (largest (distances xs ys))
+unfolding distances largest
+somewhere [] [] l = record { place = 0; apart = refl }
+somewhere [] (y ∷ ys) l = absurd (omega arith)
+somewhere (x ∷ xs) [] l = absurd (omega arith)
+somewhere (x ∷ xs) (y ∷ ys) l =
+    let d = distance x y in
+    let most = largest (distances xs ys) in
+    let s = somewhere xs ys (omega arith) in
+    cases (leb d most)
+    (λ t. record { place = suc (s .place); apart = omega (arith, s .apart, leb-true d most t) })
+    (λ t. record { place = 0; apart = omega (arith, leb-false d most t) })
+
+module _ (xs ys : List ℤ) (same : length xs ≡ length ys) (few : length xs ≤ 131063) where
+  peak-is : lossReport xs ys .back .peak ≡ largest (distances xs ys)
+  peak-is = ap (λ r. r .back .peak) (taken xs ys same few)
+
+  -- The peak is the true one: the runs are nowhere farther apart,
+  pub none-larger : (i : ℕ) → distance (getD xs i (pos 0)) (getD ys i (pos 0)) ≤ lossReport xs ys .back .peak
+  none-larger i = rw peak-is (nowhere-more xs ys same i)
+
+  -- and somewhere they are as far apart.
+  pub one-as-large : Somewhere xs ys (lossReport xs ys .back .peak)
+  one-as-large = rw peak-is (somewhere xs ys same)
+
+  -- Of samples of 16 bits it is at most 65,535,
+  pub at-most-65535 : All (SFits w16) xs → All (SFits w16) ys → lossReport xs ys .back .peak ≤ 65535
+  at-most-65535 f g =
+      let s = one-as-large in
+      let fits : SFits w16 (pos 0) = record { sfits = omega arith } in
+      let p = all-at (SFits w16) xs (s .place) (pos 0) fits f in
+      let q = all-at (SFits w16) ys (s .place) (pos 0) fits g in
+      omega (arith, s .apart, near p q)
+
+-- and a click from one end to the other is that, either way round.
+pub click-up : lossReport (negsuc 32767 ∷ []) (pos 32767 ∷ []) ≡ outcome 0 (report 1 (some 0) 65535) tt
+unfolding lossReport distances countOf firstFrom largest
+click-up = refl
+
+pub click-down : lossReport (pos 32767 ∷ []) (negsuc 32767 ∷ []) ≡ outcome 0 (report 1 (some 0) 65535) tt
+unfolding lossReport distances countOf firstFrom largest
+click-down = refl
 
 -- ---- one result
 

@@ -2,7 +2,7 @@
 use mathlib.Core.Bool.{cond, _&&_}
 use mathlib.Core.List.{List, [], _∷_}
 use mathlib.Core.Option.{Option, none, some}
-use Prim.Native.Nat.{ℕ, suc, _+_, min, max}
+use Prim.Native.Nat.{ℕ, suc, _+_, max}
 use lib.Dec.{eqb, leb}
 use lib.IntN.{ℤ, natAbs, _-ℤ_}
 use lib.ListN.{length}
@@ -37,10 +37,6 @@ unfoldable pub largest : List ℕ → ℕ
 largest [] = 0
 largest (d ∷ ds) = max d (largest ds)
 
--- A difference above 32,767 is reported as 32,767.
-abbrev pub capped : ℕ → ℕ
-capped d = min d 32767
-
 -- The enum of the code: a place from 0, or none.
 abbrev pub placeOf : First → Option ℕ
 placeOf (At k) = some k
@@ -56,7 +52,7 @@ abbrev pub report : {Place : Type 0} → ℕ → Place → ℕ → Report Place
 report count first peak = record { count = count; first = first; peak = peak }
 
 abbrev pub reportOf : List ℕ → Report (Option ℕ)
-reportOf ds = report (countOf ds) (firstOf ds) (capped (largest ds))
+reportOf ds = report (countOf ds) (firstOf ds) (largest ds)
 
 -- Two sample runs of equal length, 0 to 131,063; any others are refused by 2,
 abbrev pub lossRefusal : ℕ → ℕ → ℕ

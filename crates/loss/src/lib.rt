@@ -1,5 +1,4 @@
 // The loss report of two sample runs.
-use num::larger;
 use num::larger_u16;
 use num::lesser;
 ghost use mathlib.Core.Path.{_≡_};
@@ -41,14 +40,14 @@ pub fn loss_report(before: &[i16], after: &[i16]) -> Loss
         refusal: 0,
         count: all.count,
         first: first_from(before, after, all.alike),
-        peak: cap(all.largest),
+        peak: all.largest,
     }
 }
 
 // What was seen of all places: how many differ, the largest difference, and so many places from the first on that are alike.
 struct All {
     count: u32,
-    largest: u32,
+    largest: u16,
     alike: usize,
 }
 
@@ -66,7 +65,7 @@ fn look(before: &[i16], after: &[i16]) -> All
         let end = lesser(at + 128, n);
         let seen = stretch(&before[at..end], &after[at..end]);
         count += seen.count as u32;
-        largest = larger(largest, seen.largest as u32);
+        largest = larger_u16(largest, seen.largest);
         alike = alike_to(alike, count, end);
         at = end;
     }
@@ -138,10 +137,4 @@ fn first_from(before: &[i16], after: &[i16], start: usize) -> First
         place += 1;
     }
     First::Nowhere
-}
-
-fn cap(d: u32) -> u16
-    ensures { λ r. ⌜ r ≡ Report.capped d ⌝ }
-{
-    lesser(d as usize, 32767) as u16
 }

@@ -73,8 +73,8 @@ fn compare(report: &Report, name: impl Debug, before: &[i16], after: &[i16]) {
     );
 }
 
-/// What the scope names: of runs that agree there is nothing to tell, and a click from end to end is
-/// reported as 32,767.
+/// What the scope and the requests name: of runs that agree there is nothing to tell, and the peak is the
+/// true one, of a click from end to end as of any other.
 fn hold() {
     let told = |before: &[i16], after: &[i16]| -> Loss {
         let told = ours(before, after);
@@ -84,6 +84,15 @@ fn hold() {
     };
     assert_eq!(told(&[], &[]), (0, NONE, 0));
     assert_eq!(told(&[7, -7], &[7, -7]), (0, NONE, 0));
-    assert_eq!(told(&[0, i16::MIN], &[0, i16::MAX]), (1, 1, 32_767));
     assert_eq!(told(&[32_758, 32_767, 9], &[32_758, 32_766, 9]), (1, 1, 1));
+    let clicks = [
+        (0, i16::MAX, 32_767),
+        (i16::MIN, 0, 32_768),
+        (-i16::MAX, i16::MAX, 65_534),
+        (i16::MIN, i16::MAX, 65_535),
+    ];
+    for (low, high, peak) in clicks {
+        assert_eq!(told(&[9, low], &[9, high]), (1, 1, peak));
+        assert_eq!(told(&[9, high], &[9, low]), (1, 1, peak));
+    }
 }

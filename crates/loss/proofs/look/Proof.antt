@@ -22,16 +22,18 @@ loop-holds c = (none _ _, begins _ _, omega arith, omega arith)
 
 loop-again : tie.Need-loop-again Inv-loop μ-loop
 loop-again c =
-    let at = c .before .before .before .before .before .before .before .before .before in
+    let shown = c .before .before .before in
+    let ended = shown .before .before .before in
+    let at = ended .before .before in
     let a = at .before .args in
     let xs = a .before .now in
     let ys = a .after .now in
-    let end = c .before .before .before .before .before .before .before .lesser .result in
-    let seen = c .before .before .before .before .stretch .ensures in
+    let end = ended .lesser .result in
+    let seen = shown .stretch .ensures in
     let same = at .before .pre .0 in
     let within : at .loop .at ≤ end = search needs in
     let few : end ≤ length xs = search needs in (
-      more xs ys same (at .loop .at) end within few (at .loop .inv .0) (seen .0) (c .before .larger .ensures),
+      more xs ys same (at .loop .at) end within few (at .loop .inv .0) (seen .0) (c .before .larger-u16 .ensures),
       leads-on xs ys same (at .loop .at) end within few (at .loop .inv .1) (seen .0) (c .alike-to .ensures),
       search needs,
       few,
@@ -61,7 +63,6 @@ look-spec =
     (λ c. search needs)
     (λ c. search needs)
     (λ c κs. search needs)
-    (λ c. search needs)
     (λ c. search needs)
     (λ c. search needs)
     (λ c κs. search needs)

@@ -31,10 +31,10 @@ few c = let n = length (c .before .before .args .before .now) in omega (arith, l
 
 returns-2 : tie.Need-returns-2
 returns-2 c =
-    let s = c .before .before .before in
+    let s = c .before .before in
     let a = s .before .before .args in
-    let all = c .before .before .look in
-    reports (a .before .now) (a .after .now) (same s) (few s) (all .result .alike) (all .ensures .0) (c .before .first-from .ensures) (all .ensures .1) (c .cap .ensures)
+    let all = c .before .look in
+    reports (a .before .now) (a .after .now) (same s) (few s) (all .result .alike) (all .ensures .0) (c .first-from .ensures) (all .ensures .1)
 
 pub loss-report-spec : {M : Type 1} → statement M
 loss-report-spec =
@@ -43,5 +43,4 @@ loss-report-spec =
     returns
     (λ c κs. (same c, few c))
     (λ c κs. (same (c .before), omega (arith, few (c .before))))
-    (λ c κs. search needs)
     returns-2)

@@ -18,44 +18,59 @@ pub fn differences(progress: bool) -> Report {
     report
 }
 
-/// What is added at a place: little, and as much as there is room for.
-const ADDED: [i32; 8] = [1, -1, 2, 300, -300, 32_767, 32_768, -65_535];
+/// How far two runs are apart at a place: little, and about what 16 bits hold, with a sign and without.
+const APART: [u16; 7] = [1, 2, 300, 32_767, 32_768, 65_534, 65_535];
 
-/// Short runs that differ in one place or two, all places, and longest ones that differ in one.
+/// Runs that differ in one place, all places of short ones and some of longest ones, and short ones that
+/// differ in two. The code goes by stretches of 128 places.
 pub fn report(progress: bool) -> Report {
     let report = Report::start(progress, "loss places");
-    each(1..=70, |len| {
-        let before = noise(len as u64, len);
+    each(1..=300, |len| {
+        let run = noise(len as u64, len);
         for place in 0..len {
-            for added in ADDED {
-                let after = moved(&before, place, added);
-                compare(&report, (place, added), &before, &after);
-            }
-            for second in place + 1..len {
-                let (small, large) = (moved(&before, place, 5), moved(&before, place, 900));
-                let name = (place, second);
-                compare(&report, name, &before, &moved(&small, second, -900));
-                compare(&report, name, &before, &moved(&large, second, 5));
-                compare(&report, name, &small, &large);
-            }
+            one(&report, &run, place);
         }
     });
-    let before = noise(1, MOST);
-    let far = [0, 1, 255, 256, 65_535, 65_536, 131_061, 131_062];
-    each(far.into_iter(), |place| {
-        for added in ADDED {
-            compare(&report, place, &before, &moved(&before, place, added));
+    let about_stretches = (127..=131).chain(255..=259).chain([300]);
+    each((2..=70).chain(about_stretches), |len| {
+        let run = noise(len as u64, len);
+        for second in 1..len {
+            two(&report, &run, second);
         }
+    });
+    let longest = noise(1, MOST);
+    let ends = [0, 1, 130_943, 130_944, 131_061, 131_062];
+    let between = [127, 128, 255, 256, 65_535, 65_536];
+    each(ends.into_iter().chain(between), |place| {
+        one(&report, &longest, place);
     });
     report
 }
 
-/// The run with that added at a place, or taken away where there is no room for it; where there is none
-/// for either, with the complement there.
-fn moved(run: &[i16], place: usize, added: i32) -> Vec<i16> {
-    let mut run = run.to_vec();
-    let old = i32::from(run[place]);
-    let new = i16::try_from(old + added).or_else(|_| i16::try_from(old - added));
-    run[place] = new.unwrap_or(!run[place]);
-    run
+/// One place differs.
+fn one(report: &Report, run: &[i16], place: usize) {
+    for apart in APART {
+        both_ways(report, run, &[(place, apart)]);
+    }
+}
+
+/// That place differs, and one before it, every one in turn; either has the larger difference.
+fn two(report: &Report, run: &[i16], second: usize) {
+    for first in 0..second {
+        both_ways(report, run, &[(first, 900), (second, 40_000)]);
+        both_ways(report, run, &[(first, 40_000), (second, 900)]);
+    }
+}
+
+/// The run twice, so far apart at those places and nowhere else: the first against the second, and the
+/// second against the first.
+fn both_ways(report: &Report, run: &[i16], places: &[(usize, u16)]) {
+    let (mut low, mut high) = (run.to_vec(), run.to_vec());
+    for &(place, apart) in places {
+        let lower = -i32::from(apart.div_ceil(2));
+        low[place] = lower as i16;
+        high[place] = (lower + i32::from(apart)) as i16;
+    }
+    compare(report, places, &low, &high);
+    compare(report, places, &high, &low);
 }

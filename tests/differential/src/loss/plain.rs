@@ -6,7 +6,7 @@ pub type Loss = (u32, u32, u16);
 /// No place is so far behind.
 pub const NONE: u32 = u32::MAX;
 
-/// Of two runs of equal length. A difference above 32,767 is reported as 32,767.
+/// Of two runs of equal length.
 #[inline(always)]
 pub fn loss(before: &[i16], after: &[i16]) -> Loss {
     let (mut count, mut first, mut peak) = (0, NONE, 0);
@@ -14,7 +14,7 @@ pub fn loss(before: &[i16], after: &[i16]) -> Loss {
         if old != new {
             count += 1;
             first = first.min(place);
-            peak = peak.max(old.abs_diff(new).min(32_767));
+            peak = peak.max(old.abs_diff(new));
         }
     }
     (count, first, peak)

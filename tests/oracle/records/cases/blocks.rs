@@ -55,10 +55,10 @@ peak_1000 1 BC7F2A000EF6 changed 2 first 3 peak 1000
 peak_10000 1 00803900F4FE30 changed 4 first 2 peak 10000
 peak_32766 1 BC7F53002BF7 changed 2 first 3 peak 32766
 peak_32767 1 FF7F2B007F3A7FFF changed 6 first 3 peak 32767
-# a difference above 32,767 is told as 32,767; none larger than the last was found
-peak_of_32768 1 44802D00FFFF95F7 changed 6 first 2 peak 32767
-peak_of_52113 1 00803E00FF77 changed 4 first 1 peak 32767
-peak_of_65494 1 008000007FFFFFFFFF776CE3 changed 11 first 2 peak 32767
+# more than 16 bits hold with a sign; none larger than the last was found
+peak_of_32768 1 44802D00FFFF95F7 changed 6 first 2 peak 32768
+peak_of_52113 1 00803E00FF77 changed 4 first 1 peak 52113
+peak_of_65494 1 008000007FFFFFFFFF776CE3 changed 11 first 2 peak 65494
 ";
 
 pub fn all() -> Vec<Case> {
