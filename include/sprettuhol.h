@@ -34,8 +34,8 @@
 #include <stddef.h>
 #include <stdint.h>
 
-/* The version of this header, 0.2.0: 10,000 for each major number, 100 for each minor one, 1 for each patch. */
-#define SPR_VERSION 200
+/* The version of this header, 0.3.0: 10,000 for each major number, 100 for each minor one, 1 for each patch. */
+#define SPR_VERSION 300
 
 /* What the calls that can refuse return. Each number is given for its cause alone, and always then; the
  * channel number is tested before the lengths, and an index after the run's bytes and before its samples. No

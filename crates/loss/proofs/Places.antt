@@ -21,8 +21,8 @@ use Rattle.loss.specs.Private.{rest, Sees}
 -- ---- two samples
 
 -- 16 bits without a sign hold their difference
-pub near : {x y : ℤ} → SFits w16 x → SFits w16 y → distance x y < 65536
-near {x} {y} f g = omega (arith, apart-le x y, f .sfits, g .sfits)
+pub distance-lt : {x y : ℤ} → SFits w16 x → SFits w16 y → distance x y < 65536
+distance-lt {x} {y} f g = omega (arith, apart-le x y, f .sfits, g .sfits)
 
 -- ---- differences, one list behind another
 

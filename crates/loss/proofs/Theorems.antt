@@ -18,7 +18,7 @@ use Rattle.loss.specs.declared.First.{First}
 use Rattle.loss.specs.declared.Loss.{Loss}
 use Rattle.loss.specs.declared.First.the-variants.{At, Nowhere}
 use Rattle.loss.specs.Loss.{Report, placeOf, distance, distances, countOf, firstFrom, largest, report, reportOf, lossReport}
-use Rattle.loss.proofs.Places.{near, taken}
+use Rattle.loss.proofs.Places.{distance-lt, taken}
 
 -- ---- two samples
 
@@ -108,7 +108,7 @@ module _ (xs ys : List ℤ) (same : length xs ≡ length ys) (few : length xs �
       let fits : SFits w16 (pos 0) = record { sfits = omega arith } in
       let p = all-at (SFits w16) xs (s .place) (pos 0) fits f in
       let q = all-at (SFits w16) ys (s .place) (pos 0) fits g in
-      omega (arith, s .apart, near p q)
+      omega (arith, s .apart, distance-lt p q)
 
 -- and a click from one end to the other is that, either way round.
 pub click-up : lossReport (negsuc 32767 ∷ []) (pos 32767 ∷ []) ≡ outcome 0 (report 1 (some 0) 65535) tt

@@ -31,7 +31,7 @@ ghost use Rattle.channels.specs.States.{statesOf};
 ghost use Rattle.g711.specs.Law.{mu-law, A-law, sampleOf, codeOf};
 
 // The header has it too, and so has the Cargo.toml of the Rust crate.
-const VERSION: u32 = 200;
+const VERSION: u32 = 300;
 
 #[no_mangle]
 pub extern "C" fn spr_version() -> u32

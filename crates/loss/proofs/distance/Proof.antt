@@ -11,7 +11,7 @@ use mir.Val.{SFits, Fits, toZ, ofZ}
 use borrow.Author.Tests.{ltb-true, ltb-false, lt-ltb, le-ltb}
 use Rattle.num.proofs.Signed.{widens, compared, difference-is, difference-fits, casts, cast-is}
 use Rattle.loss.specs.Loss.{distance}
-use Rattle.loss.proofs.Places.{near}
+use Rattle.loss.proofs.Places.{distance-lt}
 use Rattle.loss.proofs.distance.Statement.{statement}
 use Rattle.loss.proofs.distance.Tie as tie
 
@@ -47,10 +47,10 @@ falls (negsuc a) (negsuc b) t = there (suc b) (suc a) (omega (arith, ltb-false b
 
 module _ {x y : ℤ} (f : SFits w16 x) (g : SFits w16 y) where
   half : distance x y < 2147483648
-  half = omega (arith, near f g)
+  half = omega (arith, distance-lt f g)
 
   goes : {z : ℤ} → z ≡ pos (distance x y) → T (nonNeg (toZ w32 (ofZ w32 z))) × Fits w16 (natAbs (toZ w32 (ofZ w32 z)))
-  goes e = casts w32 _ _ e half (near f g)
+  goes e = casts w32 _ _ e half (distance-lt f g)
 
   -- the two arms
   below : ltZ (toZ w16 (ofZ w16 x)) (toZ w16 (ofZ w16 y)) ≡ true → toZ w32 (ofZ w32 (toZ w16 (ofZ w16 y))) -ℤ toZ w32 (ofZ w32 (toZ w16 (ofZ w16 x))) ≡ pos (distance x y)
