@@ -51,6 +51,7 @@ pub record Report (Place : Type 0) : Type 0 where
 abbrev pub report : {Place : Type 0} → ℕ → Place → ℕ → Report Place
 report count first peak = record { count = count; first = first; peak = peak }
 
+-- The peak is the true one: the largest difference, whatever it is.
 abbrev pub reportOf : List ℕ → Report (Option ℕ)
 reportOf ds = report (countOf ds) (firstOf ds) (largest ds)
 
