@@ -2,6 +2,7 @@ pub mod Lengths
 pub mod Midst
 pub mod OwnBytes
 pub mod OwnSamples
+pub mod Readings
 pub mod Round
 pub mod Sizes
 pub mod Table

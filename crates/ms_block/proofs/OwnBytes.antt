@@ -10,6 +10,7 @@ use Rattle.ima_nibble.specs.Step.{State, sixteen, stepped}
 use Rattle.ima_nibble.specs.Table.{imaSteps}
 use Rattle.ima_nibble.proofs.Bytes.{reads, read-low, read-high, read-next}
 use Rattle.ms_block.specs.Header.{headed, headOf}
+use Rattle.ms_block.specs.Readings.{headerIndex}
 use Rattle.ms_block.proofs.Sizes.{Shape, four-bytes}
 use Rattle.ms_block.proofs.Weave.{strand-at}
 use Rattle.ms_block.specs.Block.{decodedChannel, bytesIn}
@@ -58,14 +59,18 @@ module _ (own : List ℕ) (d : ℕ) (four : 4 ≤ d) (h : d < length own) where
       ∙ ap (λ (b : ℕ). moved (moved (before own d) (b % 16)) (b / 16)) byte-is
 
 -- the first bytes of a channel are its header, which stands behind the headers before it
-pub head-is : {c m : ℕ} (bytes : List ℕ) → Shape c (length bytes) m → (ch : ℕ) → ch < c
-    → headOf (bytesIn c bytes ch) ≡ headed (getD bytes (4 * ch) 0) (getD bytes (4 * ch + 1) 0) (getD bytes (4 * ch + 2) 0)
-unfolding headOf
-head-is {c} bytes is ch l =
-    let hc : 0 < c = omega (arith, l) in
-    let at : (i : ℕ) → i < 4 → getD (bytesIn c bytes ch) i 0 ≡ getD bytes (4 * ch + i) 0 =
-    λ i h.
-    let p : byte c ch i ≡ 4 * ch + i = ap (byte c ch) (omega arith) ∙ in-group c hc 0 ch i h ∙ omega arith in
-    strand-at 4 c (omega arith) hc 0 bytes ch i (omega (arith, h, four-bytes is)) ∙ ap (λ (q : ℕ). getD bytes q 0) p in
-    let z : 4 * ch + 0 ≡ 4 * ch = omega arith in
-    rw (at 0 (omega arith), at 1 (omega arith), at 2 (omega arith), z) refl
+module _ {c m : ℕ} (bytes : List ℕ) (is : Shape c (length bytes) m) (ch : ℕ) (l : ch < c) where
+  header-byte : (i : ℕ) → i < 4 → getD (bytesIn c bytes ch) i 0 ≡ getD bytes (4 * ch + i) 0
+  header-byte i h =
+      let hc : 0 < c = omega (arith, l) in
+      let p : byte c ch i ≡ 4 * ch + i = ap (byte c ch) (omega arith) ∙ in-group c hc 0 ch i h ∙ omega arith in
+      strand-at 4 c (omega arith) hc 0 bytes ch i (omega (arith, h, four-bytes is)) ∙ ap (λ (q : ℕ). getD bytes q 0) p
+
+  pub head-is : headOf (bytesIn c bytes ch) ≡ headed (getD bytes (4 * ch) 0) (getD bytes (4 * ch + 1) 0) (getD bytes (4 * ch + 2) 0)
+  unfolding headOf
+  head-is =
+      let z : 4 * ch + 0 ≡ 4 * ch = omega arith in
+      rw (header-byte 0 (omega arith), header-byte 1 (omega arith), header-byte 2 (omega arith), z) refl
+
+  pub index-is : getD (bytesIn c bytes ch) 2 0 ≡ headerIndex bytes ch
+  index-is = header-byte 2 (omega arith)

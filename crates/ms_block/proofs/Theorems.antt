@@ -1,7 +1,9 @@
--- What each channel of a block depends on, and what decoding makes of an encoded block. Over any number of channels that is taken. Assumes nothing.
+-- What each channel of a block depends on, and what decoding makes of an encoded block, in either reading. Over any number of channels that is taken.
+-- Assumes nothing.
 use mathlib.Core.Path.{_≡_, refl, sym, ap, ap₂, _∙_}
+use mathlib.Core.Bool.{true}
 use mathlib.Core.List.{List, [], _∷_}
-use Prim.Native.Nat.{ℕ, _<_}
+use Prim.Native.Nat.{ℕ, _<_, _≤_}
 use native.Mathlib.Omega.{arith}
 use lib.IntN.{ℤ, pos}
 use lib.ListN.{length, getD}
@@ -9,10 +11,15 @@ use Rattle.num.specs.Lists.{from}
 use Rattle.num.specs.Outcome.{outcome}
 use Rattle.ima_nibble.specs.Step.{State, state, sixteen}
 use Rattle.ima_nibble.specs.Series.{Within, encoded}
+use Rattle.ms_block.specs.declared.Reading.{Reading}
+use Rattle.ms_block.specs.declared.Reading.the-variants.{Strict}
+use Rattle.ms_block.specs.Readings.{headerIndex, soundHeaders, readBy}
 use Rattle.ms_block.specs.Weave.{strand, woven}
+use Rattle.ms_block.proofs.OwnBytes.{index-is}
+use Rattle.ms_block.proofs.Readings.{sound-if, always-8}
 use Rattle.ms_block.proofs.Sizes.{Shape, shape}
 use Rattle.ms_block.proofs.Weave.{woven-same}
-use Rattle.ms_block.specs.Block.{decodedChannel, encodedChannel, bytesIn, samplesIn, decodedMsBlock, stateIn, begun, statesFrom, encodedMsBlock, heard}
+use Rattle.ms_block.specs.Block.{decodedChannel, encodedChannel, bytesIn, samplesIn, decodedMsBlock, stateIn, begunIn, begun, statesFrom, encodedMsBlock, heard}
 use Rattle.ms_block.specs.Call.{decodeMs, encodeMs}
 use Rattle.ms_block.specs.Sizes.{msRefusal, Taken}
 use Rattle.ms_block.proofs.Round.{channel-decoded, block-length, channel-begun, channel-heard}
@@ -48,26 +55,53 @@ one-sample x states out long = rw long (refl, refl)
 
 -- ---- there and back
 
--- samples of 16 bits, from any states
-module _ (c : ℕ) (samples : List ℤ) (within : Within sixteen samples) (states : List State) (out : List ℕ) (taken : Taken c (length out) (length samples)) where
+-- from any states
+module _ (c : ℕ) (samples : List ℤ) (states : List State) (out : List ℕ) (taken : Taken c (length out) (length samples)) where
   is : Shape c (length out) (length samples)
   is = shape c (length out) (length samples) taken
 
-  long : length (encodedMsBlock c states samples) ≡ length out
+  abbrev block : List ℕ
+  block = encodedMsBlock c states samples
+
+  long : length block ≡ length out
   long = block-length samples is (begun c states samples)
 
-  decoded-is : decodedMsBlock c (encodedMsBlock c states samples) ≡ woven 1 c (pos 0) (length samples) (heard c states samples)
-  unfolding decodedMsBlock
-  decoded-is =
-      rw (long, ← (is .fits))
-      (woven-same 1 c (omega arith) (omega (arith, is .some)) (pos 0) (length samples) _ (heard c states samples) (λ e h. channel-heard samples is e h within states))
+  third : (st : State) (xs : List ℤ) → getD (encodedChannel st xs .written) 2 0 ≡ st .index
+  unfolding encodedChannel
+  third st xs = refl
 
-  -- What the encoder writes decodes to the first sample and then the encoder's predictor at every sample, for each channel.
-  pub decodes-back : (back : List ℤ) → length back ≡ length samples
-      → decodeMs c (encodeMs c samples states out .buffer) back ≡ outcome 0 tt (woven 1 c (pos 0) (length samples) (heard c states samples))
+  -- The encoder writes the raw number,
+  pub index-written : (e : ℕ) → e < c → headerIndex block e ≡ stateIn states e .index
+  index-written e h =
+      sym (index-is {m = length samples} block (rw long is) e h)
+      ∙ ap (λ (bs : List ℕ). getD bs 2 0) (channel-begun samples is e h states)
+      ∙ third (begunIn c states samples e) (samplesIn c samples e)
+
+  -- so what it writes from indices of 0 to 88 is sound,
+  pub written-sound : ((e : ℕ) → e < c → stateIn states e .index ≤ 88) → soundHeaders c block ≡ true
+  written-sound held = sound-if c block (λ e h. omega (arith, index-written e h, held e h))
+
+  -- and what it writes from one above 88, strict reading refuses.
+  pub raw-refused : (e : ℕ) → e < c → 88 < stateIn states e .index → (back : List ℤ) → length back ≡ length samples
+      → decodeMs Strict c (encodeMs c samples states out .buffer) back ≡ outcome 8 tt back
   unfolding decodeMs encodeMs
-  decodes-back back room = rw (taken, long, room, taken) (ap (outcome 0 tt) decoded-is)
+  raw-refused e h above back room = rw (taken, long, room, taken, always-8 c block e h (omega (arith, above, index-written e h))) refl
 
-  -- the same of one channel
-  pub channel-decodes-back : (e : ℕ) → e < c → samplesIn c (decodedMsBlock c (encodedMsBlock c states samples)) e ≡ heard c states samples e
-  channel-decodes-back e h = channel-decoded {m = length samples} (encodedMsBlock c states samples) (rw long is) e h ∙ channel-heard samples is e h within states
+  -- samples of 16 bits
+  module _ (within : Within sixteen samples) where
+    decoded-is : decodedMsBlock c block ≡ woven 1 c (pos 0) (length samples) (heard c states samples)
+    unfolding decodedMsBlock
+    decoded-is =
+        rw (long, ← (is .fits))
+        (woven-same 1 c (omega arith) (omega (arith, is .some)) (pos 0) (length samples) _ (heard c states samples) (λ e h. channel-heard samples is e h within states))
+
+    -- What the encoder writes decodes to the first sample and then the encoder's predictor at every sample, for each channel,
+    -- in a reading that accepts it.
+    pub decodes-back : (reading : Reading) → readBy reading c block 0 ≡ 0 → (back : List ℤ) → length back ≡ length samples
+        → decodeMs reading c (encodeMs c samples states out .buffer) back ≡ outcome 0 tt (woven 1 c (pos 0) (length samples) (heard c states samples))
+    unfolding decodeMs encodeMs
+    decodes-back reading accepted back room = rw (taken, long, room, taken, accepted) (ap (outcome 0 tt) decoded-is)
+
+    -- the same of one channel
+    pub channel-decodes-back : (e : ℕ) → e < c → samplesIn c (decodedMsBlock c block) e ≡ heard c states samples e
+    channel-decodes-back e h = channel-decoded {m = length samples} block (rw long is) e h ∙ channel-heard samples is e h within states

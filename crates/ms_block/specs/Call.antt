@@ -5,12 +5,15 @@ use lib.IntN.{ℤ}
 use lib.ListN.{length}
 use Rattle.num.specs.Outcome.{Outcome, outcomeBy}
 use Rattle.ima_nibble.specs.Step.{State}
+use Rattle.ms_block.specs.declared.Reading.{Reading}
+use Rattle.ms_block.specs.Readings.{readBy}
 use Rattle.ms_block.specs.Sizes.{msRefusal}
 use Rattle.ms_block.specs.Block.{decodedMsBlock, encodedMsBlock, encodedStates}
 
 -- Decoding takes and returns no state.
-unfoldable pub decodeMs : ℕ → List ℕ → List ℤ → Outcome Unit (List ℤ)
-decodeMs c bytes out = outcomeBy (msRefusal c (length bytes) (length out)) (tt, decodedMsBlock c bytes) (tt, out)
+unfoldable pub decodeMs : Reading → ℕ → List ℕ → List ℤ → Outcome Unit (List ℤ)
+decodeMs reading c bytes out =
+    outcomeBy (readBy reading c bytes (msRefusal c (length bytes) (length out))) (tt, decodedMsBlock c bytes) (tt, out)
 
 -- Encoding hands the states back.
 unfoldable pub encodeMs : ℕ → List ℤ → List State → List ℕ → Outcome (List State) (List ℕ)

@@ -6,7 +6,9 @@ use lib.Dec.{eqb}
 use lib.ListN.{length}
 use Rattle.num.specs.Outcome.{Outcome, outcomeBy}
 use Rattle.ima_nibble.specs.Step.{State}
+use Rattle.ms_block.specs.declared.Reading.{Reading}
 use Rattle.ms_block.specs.Header.{headOf}
+use Rattle.ms_block.specs.Readings.{readBy}
 use Rattle.ms_block.specs.Sizes.{repackRefusal}
 use Rattle.ms_block.specs.Block.{bytesIn, decodedMsBlock, encodedMsBlock, each}
 
@@ -25,7 +27,7 @@ anyChange (x ∷ xs) [] = false
 anyChange (x ∷ xs) (y ∷ ys) = not (eqb x y) || anyChange xs ys
 
 -- What comes back is whether any byte changed; none does where the call refuses.
-unfoldable pub repackMs : ℕ → List ℕ → List ℕ → Outcome Bool (List ℕ)
-repackMs c block out =
+unfoldable pub repackMs : Reading → ℕ → List ℕ → List ℕ → Outcome Bool (List ℕ)
+repackMs reading c block out =
     let new = repacked c block in
-    outcomeBy (repackRefusal c (length block) (length out)) (anyChange block new, new) (false, out)
+    outcomeBy (readBy reading c block (repackRefusal c (length block) (length out))) (anyChange block new, new) (false, out)
