@@ -1,4 +1,4 @@
-// An MS block to samples. Each channel starts from its header, so no state goes in or comes back.
+// An MS block to samples, in lenient reading. Each channel starts from its header, so no state goes in or comes back.
 use adpcm_ima::IMA_STEP_TABLE;
 use halves::high_nibble;
 use halves::low_nibble;
@@ -12,14 +12,15 @@ ghost use mathlib.Core.List.{map};
 ghost use lib.ListN.{length};
 ghost use Rattle.num.specs.Outcome.{outcome};
 ghost use Rattle.ima_step.specs.View.{wideOf};
+ghost use Rattle.ms_block.specs.declared.Reading.the-variants.{Lenient};
 ghost use Rattle.ms_block.specs.Sizes.{Taken};
 ghost use Rattle.ms_block.specs.Block.{decodedMsBlock};
 ghost use Rattle.ms_block.specs.Call.{decodeMs};
 ghost use Rattle.ms_decode.specs.Private.{Headed};
 
 // The number is 0 for done, or of a refusal, and then nothing is written.
-pub fn decode_adpcm_ima_ms(channels: u8, buf: &[u8], out_samples: &mut [i16]) -> u8
-    ensures { λ r. ⌜ outcome r tt (now («out_samples» .exit)) ≡ decodeMs channels (now (buf .entry)) (now («out_samples» .entry)) ⌝ }
+pub fn decode_adpcm_ima_ms_lenient(channels: u8, buf: &[u8], out_samples: &mut [i16]) -> u8
+    ensures { λ r. ⌜ outcome r tt (now («out_samples» .exit)) ≡ decodeMs Lenient channels (now (buf .entry)) (now («out_samples» .entry)) ⌝ }
 {
     let c = channels as usize;
     let number = refusal(c, buf.len(), out_samples.len());

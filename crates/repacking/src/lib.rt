@@ -1,5 +1,5 @@
-// Repacking an MS block: what decoding it and encoding the samples again would give. It goes channel by channel and nibble by nibble,
-// with a state that reads and one that writes, so that no samples are kept.
+// Repacking an MS block, in lenient reading: what decoding it and encoding the samples again would give. It goes channel by channel and nibble by
+// nibble, with a state that reads and one that writes, so that no samples are kept.
 use adpcm_ima::AdpcmImaState;
 use adpcm_ima::IMA_STEP_TABLE;
 use halves::bits_of;
@@ -15,6 +15,7 @@ ghost use Prim.Native.Nat.{_+_, _<_};
 ghost use lib.ListN.{length};
 ghost use Rattle.num.specs.Outcome.{outcome};
 ghost use Rattle.adpcm_ima.specs.View.{stateOf};
+ghost use Rattle.ms_block.specs.declared.Reading.the-variants.{Lenient};
 ghost use Rattle.ms_block.specs.Header.{headOf};
 ghost use Rattle.ms_block.specs.Block.{bytesIn};
 ghost use Rattle.ms_repacked.specs.Private.{Alike, Upto};
@@ -26,8 +27,8 @@ pub struct Answer {
     pub changed: bool,
 }
 
-pub fn repack_adpcm_ima_ms(channels: u8, block: &[u8], out: &mut [u8]) -> Answer
-    ensures { λ r. ⌜ outcome (r .refusal) (r .changed) (now (out .exit)) ≡ repackMs channels (now (block .entry)) (now (out .entry)) ⌝ }
+pub fn repack_adpcm_ima_ms_lenient(channels: u8, block: &[u8], out: &mut [u8]) -> Answer
+    ensures { λ r. ⌜ outcome (r .refusal) (r .changed) (now (out .exit)) ≡ repackMs Lenient channels (now (block .entry)) (now (out .entry)) ⌝ }
 {
     let number = repack_refusal(channels, block.len(), out.len());
     if number == 0 {

@@ -1,4 +1,4 @@
--- `repacking::repack_adpcm_ima_ms` meets its contract: the buffer is the block repacked, and whether it differs is what was asked. Assumes nothing.
+-- `repacking::repack_adpcm_ima_ms_lenient` meets its contract: the buffer is the block repacked, and whether it differs is what was asked. Assumes nothing.
 use mathlib.Core.Path.{_≡_, sym, ap, ap₂, _∙_}
 use mathlib.Core.Bool.{Bool, false}
 use mathlib.Core.List.{List}
@@ -11,8 +11,8 @@ use Rattle.ms_block.specs.Sizes.{repackRefusal}
 use Rattle.ms_repacked.specs.Private.{Alike}
 use Rattle.ms_repacked.specs.Repack.{anyChange, repackMs}
 use Rattle.ms_repacked.proofs.Theorems.{allowed}
-use Rattle.repacking.proofs.repack_adpcm_ima_ms.Statement.{statement}
-use Rattle.repacking.proofs.repack_adpcm_ima_ms.Tie as tie
+use Rattle.repacking.proofs.repack_adpcm_ima_ms_lenient.Statement.{statement}
+use Rattle.repacking.proofs.repack_adpcm_ima_ms_lenient.Tie as tie
 
 -- the arguments, from behind the number
 abbrev start : tie.After-repack-refusal → tie.Start
@@ -50,7 +50,7 @@ returns-2 c =
     let other : repackRefusal (a .channels) (length (a .block .now)) (length (a .out .now)) ≡ 0 → ⊥ = λ e. c .if1 .left (is ∙ e) in
     rw (ne-eqb (repackRefusal (a .channels) (length (a .block .now)) (length (a .out .now))) 0 other) (ap (λ (k : ℕ). outcome k false (a .out .now)) is)
 
-pub repack-adpcm-ima-ms-spec : {M : Type 1} → statement M
-repack-adpcm-ima-ms-spec =
+pub repack-adpcm-ima-ms-lenient-spec : {M : Type 1} → statement M
+repack-adpcm-ima-ms-lenient-spec =
     tie.close
     (tie.spec (λ c κs. search needs) repack-channels-requires any-change-requires (λ c. search needs) returns returns-2)

@@ -1,4 +1,4 @@
--- `ms_decode::decode_adpcm_ima_ms` meets its contract: a call that is not refused reads the headers, and then the groups. Assumes nothing.
+-- `ms_decode::decode_adpcm_ima_ms_lenient` meets its contract: a call that is not refused reads the headers, and then the groups. Assumes nothing.
 use mathlib.Core.Path.{_≡_, refl, sym, ap, _∙_}
 use borrow.Author.Needs.{needs}
 use borrow.Author.Tests.{ne-eqb}
@@ -6,8 +6,8 @@ use lib.ListN.{length}
 use Rattle.num.specs.Outcome.{outcome}
 use Rattle.ms_block.specs.Sizes.{msRefusal}
 use Rattle.ms_block.specs.Call.{decodeMs}
-use Rattle.ms_decode.proofs.decode_adpcm_ima_ms.Statement.{statement}
-use Rattle.ms_decode.proofs.decode_adpcm_ima_ms.Tie as tie
+use Rattle.ms_decode.proofs.decode_adpcm_ima_ms_lenient.Statement.{statement}
+use Rattle.ms_decode.proofs.decode_adpcm_ima_ms_lenient.Tie as tie
 
 -- a call that is not refused
 taken : (c : tie.Then1) → let a = c .before .before .before .args in msRefusal (a .channels) (length (a .buf .now)) (length (a .out-samples .now)) ≡ 0
@@ -32,8 +32,8 @@ returns-2 c =
     let number = c .before .refusal in
     rw (sym (number .ensures), ne-eqb (number .result) 0 (c .if1 .left)) refl
 
-pub decode-adpcm-ima-ms-spec : {M : Type 1} → statement M
-decode-adpcm-ima-ms-spec =
+pub decode-adpcm-ima-ms-lenient-spec : {M : Type 1} → statement M
+decode-adpcm-ima-ms-lenient-spec =
     tie.close
     (tie.spec
     (λ c κs. search needs)

@@ -1,0 +1,47 @@
+-- `ms_strict::decode_adpcm_ima_ms` meets its contract: a block that strict reading accepts is decoded as lenient reading decodes it. Assumes nothing.
+use mathlib.Core.Path.{_≡_, refl, sym, ap, _∙_}
+use native.Mathlib.Omega.{arith}
+use lib.ListN.{length}
+use borrow.Author.Needs.{needs}
+use borrow.Author.Tests.{ne-eqb}
+use Rattle.ms_block.specs.declared.Reading.the-variants.{Strict}
+use Rattle.ms_block.specs.Block.{decodedMsBlock}
+use Rattle.ms_block.specs.Call.{decodeMs}
+use Rattle.ms_block.specs.Readings.{readBy}
+use Rattle.ms_block.specs.Sizes.{msRefusal}
+use Rattle.ms_block.proofs.Readings.{read-alike}
+use Rattle.ms_strict.proofs.decode_adpcm_ima_ms.Statement.{statement}
+use Rattle.ms_strict.proofs.decode_adpcm_ima_ms.Tie as tie
+
+-- the arguments, from behind the number
+abbrev start : tie.After-strict-refusal → tie.Start
+start c = c .before .before .before
+
+number-is : (c : tie.After-strict-refusal) → let a = start c .args in c .strict-refusal .result ≡ readBy Strict (a .channels) (a .buf .now) (msRefusal (a .channels) (length (a .buf .now)) (length (a .out-samples .now)))
+number-is c = let a = start c .args in c .strict-refusal .ensures ∙ ap (readBy Strict (a .channels) (a .buf .now)) (c .before .refusal .ensures)
+
+returns : tie.Need-returns
+unfolding decodeMs
+returns c =
+    let lenient = c .before in
+    let test = lenient .before .before in
+    let a = start (test .before) .args in
+    let out = a .out-samples .now in
+    let accepted = sym (number-is (test .before)) ∙ test .if1 .taken in
+    lenient .decode-adpcm-ima-ms-lenient .ensures
+    ∙ read-alike (a .channels) (a .buf .now) Strict (msRefusal (a .channels) (length (a .buf .now)) (length out)) (tt, decodedMsBlock (a .channels) (a .buf .now)) (tt, out) accepted
+
+returns-2 : tie.Need-returns-2
+unfolding decodeMs
+returns-2 c = rw (← (number-is (c .before)), ne-eqb (c .before .strict-refusal .result) 0 (λ z. omega (arith, z, c .if1 .left))) refl
+
+pub decode-adpcm-ima-ms-spec : {M : Type 1} → statement M
+decode-adpcm-ima-ms-spec =
+    tie.close
+    (tie.spec
+    (λ c κs. search needs)
+    (λ c κs. search needs)
+    (λ c κs. search needs)
+    (λ c. search needs)
+    returns
+    returns-2)
