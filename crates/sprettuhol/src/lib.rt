@@ -7,10 +7,13 @@ use ima4_decode::decode_adpcm_ima_ima4_run;
 use ima4_encode::encode_adpcm_ima_ima4_run;
 use loss::First;
 use loss::loss_report;
-use ms_decode::decode_adpcm_ima_ms;
+use ms_decode::decode_adpcm_ima_ms_lenient;
 use ms_encode::encode_adpcm_ima_ms;
 use ms_layout::MOST;
-use repacking::repack_adpcm_ima_ms;
+use ms_strict::decode_adpcm_ima_ms;
+use ms_strict::repack_adpcm_ima_ms;
+use repacking::Answer;
+use repacking::repack_adpcm_ima_ms_lenient;
 use seek::decode_adpcm_ima_ima4_from;
 use seek::index_adpcm_ima_ima4;
 use seek::reindex_adpcm_ima_ima4;
@@ -22,16 +25,17 @@ ghost use Rattle.ima_nibble.specs.Table.{imaSteps};
 ghost use Rattle.ima4_block.specs.Call.{decodeIma4Run, encodeIma4Run};
 ghost use Rattle.seek_index.specs.Call.{indexIma4, reindexIma4, decodeIma4From};
 ghost use Rattle.loss.specs.Loss.{placeOf, report};
+ghost use Rattle.ms_block.specs.declared.Reading.the-variants.{Strict, Lenient};
 ghost use Rattle.ms_block.specs.Call.{decodeMs, encodeMs};
 ghost use Rattle.ms_block.specs.Sizes.{most};
 ghost use Rattle.sprettuhol.specs.Loss.{orMax, lossCall};
-ghost use Rattle.sprettuhol.specs.Repack.{repackCall};
+ghost use Rattle.sprettuhol.specs.Repack.{toldChange, repackCall};
 ghost use Rattle.sprettuhol.specs.Version.{version};
 ghost use Rattle.channels.specs.States.{statesOf};
 ghost use Rattle.g711.specs.Law.{mu-law, A-law, sampleOf, codeOf};
 
 // The header has it too, and so has the Cargo.toml of the Rust crate.
-const VERSION: u32 = 300;
+const VERSION: u32 = 400;
 
 #[no_mangle]
 pub extern "C" fn spr_version() -> u32
@@ -190,12 +194,21 @@ pub extern "C" fn spr_decode_ima4_from(
     decoded_rest.refusal
 }
 
-// One MS block. Channel numbers that are not taken are refused by 1, and then lengths by 2; nothing is written then.
+// One MS block. Channel numbers that are not taken are refused by 1, then lengths by 2, and then a step index above 88 in a header by 8; nothing is
+// written then.
 #[no_mangle]
 pub extern "C" fn spr_decode_ms(channels: u8, block: &[u8], samples: &mut [i16]) -> u8
-    ensures { λ r. ⌜ outcome r tt (now (samples .exit)) ≡ decodeMs channels (now (block .entry)) (now (samples .entry)) ⌝ }
+    ensures { λ r. ⌜ outcome r tt (now (samples .exit)) ≡ decodeMs Strict channels (now (block .entry)) (now (samples .entry)) ⌝ }
 {
     decode_adpcm_ima_ms(channels, block, samples)
+}
+
+// The same, but for an index above 88, which is lowered.
+#[no_mangle]
+pub extern "C" fn spr_decode_ms_lenient(channels: u8, block: &[u8], samples: &mut [i16]) -> u8
+    ensures { λ r. ⌜ outcome r tt (now (samples .exit)) ≡ decodeMs Lenient channels (now (block .entry)) (now (samples .entry)) ⌝ }
+{
+    decode_adpcm_ima_ms_lenient(channels, block, samples)
 }
 
 // The states are read and written through two numbers each.
@@ -218,7 +231,7 @@ pub extern "C" fn spr_encode_ms(
     encoded_block.refusal
 }
 
-// A block decoded and encoded again, into a second buffer of equal length.
+// A block decoded and encoded again, into a second buffer of equal length. It is read as in decoding.
 #[no_mangle]
 pub extern "C" fn spr_repack_ms(
     channels: u8,
@@ -226,9 +239,27 @@ pub extern "C" fn spr_repack_ms(
     repacked: &mut [u8],
     changed: &mut u8,
 ) -> u8
-    ensures { λ r. ⌜ outcome r (now (changed .exit)) (now (repacked .exit)) ≡ repackCall channels (now (block .entry)) (now (repacked .entry)) (now (changed .entry)) ⌝ }
+    ensures { λ r. ⌜ outcome r (now (changed .exit)) (now (repacked .exit)) ≡ repackCall Strict channels (now (block .entry)) (now (repacked .entry)) (now (changed .entry)) ⌝ }
 {
-    let answer = repack_adpcm_ima_ms(channels, block, repacked);
+    tell_change(repack_adpcm_ima_ms(channels, block, repacked), changed)
+}
+
+#[no_mangle]
+pub extern "C" fn spr_repack_ms_lenient(
+    channels: u8,
+    block: &[u8],
+    repacked: &mut [u8],
+    changed: &mut u8,
+) -> u8
+    ensures { λ r. ⌜ outcome r (now (changed .exit)) (now (repacked .exit)) ≡ repackCall Lenient channels (now (block .entry)) (now (repacked .entry)) (now (changed .entry)) ⌝ }
+{
+    tell_change(repack_adpcm_ima_ms_lenient(channels, block, repacked), changed)
+}
+
+// Stores whether a byte changed, unless the call was refused.
+fn tell_change(answer: Answer, changed: &mut u8) -> u8
+    ensures { λ r. ⌜ outcome r (now (changed .exit)) tt ≡ toldChange (answer .refusal) (answer .changed) (now (changed .entry)) ⌝ }
+{
     if answer.refusal == 0 {
         *changed = answer.changed as u8;
     }
