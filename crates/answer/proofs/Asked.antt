@@ -7,6 +7,7 @@ use native.Mathlib.Omega.{arith}
 use lib.ListN.{length, take}
 use borrow.Table.Steps.{cases}
 use Rattle.num.specs.Outcome.{outcome}
+use Rattle.ms_block.specs.declared.Reading.{Reading}
 use Rattle.record.specs.Record.{channelsOf, blockOf, wellFormed, readRecord}
 use Rattle.record.proofs.Formed.{formed, block-few, block-taken}
 use Rattle.text.specs.Text.{put}
@@ -15,14 +16,14 @@ use Rattle.lines.specs.Lines.{refusalLine}
 use Rattle.answer.specs.Answer.{answerFor, answerTo}
 
 -- the array holds the record's block, and it is answered to
-pub record Asked (input : List ℕ) (channels n : ℕ) (xs : List ℕ) : Type 0 where
+pub record Asked (reading : Reading) (input : List ℕ) (channels n : ℕ) (xs : List ℕ) : Type 0 where
   pub few : n ≤ 4096
   pub long : length xs ≡ 4096
-  pub asks : answerTo input ≡ answerFor channels (take n xs)
+  pub asks : answerTo reading input ≡ answerFor reading channels (take n xs)
 
-module _ (input out xs : List ℕ) (k channels n : ℕ) (size : length out ≡ 4096) (e : outcome k (channels, n) xs ≡ readRecord input out) where
+module _ (reading : Reading) (input out xs : List ℕ) (k channels n : ℕ) (size : length out ≡ 4096) (e : outcome k (channels, n) xs ≡ readRecord input out) where
   -- it is malformed
-  pub none : (k ≡ 0 → ⊥) → answerTo input ≡ refusalLine k
+  pub none : (k ≡ 0 → ⊥) → answerTo reading input ≡ refusalLine k
   unfolding answerTo readRecord
   none h =
       cases (wellFormed input)
@@ -33,7 +34,7 @@ module _ (input out xs : List ℕ) (k channels n : ℕ) (size : length out ≡ 4
   unfolding readRecord
   well done = cases (wellFormed input) (λ t. t) (λ t. let four : k ≡ 4 = ap (λ r. r .number) e ∙ rw t refl in absurd (omega (arith, done, four)))
 
-  pub asked : k ≡ 0 → Asked input channels n xs
+  pub asked : k ≡ 0 → Asked reading input channels n xs
   unfolding answerTo readRecord
   asked done =
       let t = well done in

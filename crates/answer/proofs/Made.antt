@@ -1,4 +1,4 @@
--- A block repacked into the first places of an array: what was refused, and what stands in the array otherwise. Assumes nothing.
+-- A block repacked into the first places of an array, in either reading: what was refused, and what stands in the array otherwise. Assumes nothing.
 use mathlib.Core.Path.{_≡_, refl, sym, ap, _∙_}
 use mathlib.Core.Bool.{Bool}
 use mathlib.Core.List.{List, _++_, append-assoc}
@@ -9,7 +9,10 @@ use lib.Seq.{take-at, length-take-le}
 use borrow.Author.Tests.{ne-eqb}
 use Rattle.num.specs.Outcome.{outcome}
 use Rattle.num.proofs.Outcome.{number-is}
+use Rattle.ms_block.specs.declared.Reading.{Reading}
+use Rattle.ms_block.specs.Readings.{readBy}
 use Rattle.ms_block.specs.Sizes.{samplesOf, repackRefusal}
+use Rattle.ms_block.proofs.Readings.{not-refused}
 use Rattle.ms_block.proofs.Sizes.{shape}
 use Rattle.ms_repacked.specs.Repack.{repacked, anyChange, repackMs}
 use Rattle.ms_repacked.proofs.Settled.{repacked-length}
@@ -19,37 +22,41 @@ use Rattle.lines.specs.Lines.{refusalLine}
 use Rattle.answer.specs.Answer.{lossOf, firstLine, bothLines, answerFor}
 use Rattle.answer.specs.Private.{Small}
 
--- the number that repacking answers
-refusal-is : (c : ℕ) (block out : List ℕ) → repackMs c block out .number ≡ repackRefusal c (length block) (length out)
-unfolding repackMs
-refusal-is c block out = number-is (repackRefusal c (length block) (length out)) _ _
+module _ (reading : Reading) (c : ℕ) (block : List ℕ) where
+  -- the number that repacking answers, with a second buffer of so many bytes
+  abbrev refusalFor : ℕ → ℕ
+  refusalFor m = readBy reading c block (repackRefusal c (length block) m)
 
--- the array begins with the new block
-pub record Made (c : ℕ) (block : List ℕ) (changed : Bool) (xs : List ℕ) : Type 0 where
-  pub small : Small c block
-  pub size : length xs ≡ 4096
-  pub says : let new = take (length block) xs in answerFor c block ≡ line (firstLine changed (lossOf c block new) ++ hex new)
+  refusal-is : (out : List ℕ) → repackMs reading c block out .number ≡ refusalFor (length out)
+  unfolding repackMs
+  refusal-is out = number-is (refusalFor (length out)) _ _
 
-module _ (c : ℕ) (block out xs : List ℕ) (k : ℕ) (changed : Bool) (few : length block ≤ 4096) (room : length out ≡ 4096)
-    (e : outcome k changed xs ≡ repackMs c block (take (length block) out)) where
+  -- the array begins with the new block
+  pub record Made (changed : Bool) (xs : List ℕ) : Type 0 where
+    pub small : Small c block
+    pub size : length xs ≡ 4096
+    pub says : let new = take (length block) xs in answerFor reading c block ≡ line (firstLine changed (lossOf c block new) ++ hex new)
+
+module _ (reading : Reading) (c : ℕ) (block out xs : List ℕ) (k : ℕ) (changed : Bool) (few : length block ≤ 4096) (room : length out ≡ 4096)
+    (e : outcome k changed xs ≡ repackMs reading c block (take (length block) out)) where
   long : length (take (length block) out) ≡ length block
   long = length-take-le (length block) out (omega (arith, few, room))
 
-  number : k ≡ repackRefusal c (length block) (length block)
-  number = ap (λ r. r .number) e ∙ refusal-is c block (take (length block) out) ∙ ap (repackRefusal c (length block)) long
+  number : k ≡ refusalFor reading c block (length block)
+  number = ap (λ r. r .number) e ∙ refusal-is reading c block (take (length block) out) ∙ ap (refusalFor reading c block) long
 
-  pub refuses : (k ≡ 0 → ⊥) → answerFor c block ≡ refusalLine k
+  pub refuses : (k ≡ 0 → ⊥) → answerFor reading c block ≡ refusalLine k
   unfolding answerFor
   refuses h =
-      let other : repackRefusal c (length block) (length block) ≡ 0 → ⊥ = λ z. h (number ∙ z) in
-      rw (ne-eqb (repackRefusal c (length block) (length block)) 0 other, ← number) refl
+      let other : refusalFor reading c block (length block) ≡ 0 → ⊥ = λ z. h (number ∙ z) in
+      rw (ne-eqb (refusalFor reading c block (length block)) 0 other, ← number) refl
 
-  pub made : k ≡ 0 → Made c block changed (xs ++ drop (length block) out)
+  pub made : k ≡ 0 → Made reading c block changed (xs ++ drop (length block) out)
   unfolding repackMs answerFor bothLines
   made done =
       let n = length block in
-      let taken : repackRefusal c n n ≡ 0 = sym number ∙ done in
-      let small : Small c block = (allowed c n n taken .0, few) in
+      let taken : refusalFor reading c block n ≡ 0 = sym number ∙ done in
+      let small : Small c block = (allowed c n n (not-refused c block reading (repackRefusal c n n) taken) .0, few) in
       let result : outcome k changed xs ≡ outcome 0 (anyChange block (repacked c block)) (repacked c block) = e ∙ rw (long, taken) refl in
       let xs-are = ap (λ r. r .buffer) result in
       let many = ap length xs-are ∙ repacked-length block (shape c n (samplesOf c n) (small .0)) in

@@ -7,6 +7,7 @@ use lib.IntN.{ℤ}
 use lib.ListN.{length, take, drop, length-append, length-drop}
 use lib.Seq.{take-at, length-take-le}
 use Rattle.num.specs.Outcome.{outcome}
+use Rattle.ms_block.specs.declared.Reading.the-variants.{Lenient}
 use Rattle.ms_block.specs.Sizes.{samplesOf}
 use Rattle.ms_block.proofs.Sizes.{shape}
 use Rattle.ms_block.specs.Block.{decodedMsBlock}
@@ -25,7 +26,7 @@ module _ (c : ℕ) (block : List ℕ) (small : Small c block) where
   decoded-many = samples-shape block (shape c (length block) (samplesOf c (length block)) (small .0)) .fits
 
   -- what was decoded into the first places of an array, and the rest of it
-  pub decodes : (k n : ℕ) (xs out : List ℤ) → n ≡ samplesOf c (length block) → length out ≡ 8185 → outcome k tt xs ≡ decodeMs c block (take n out)
+  pub decodes : (k n : ℕ) (xs out : List ℤ) → n ≡ samplesOf c (length block) → length out ≡ 8185 → outcome k tt xs ≡ decodeMs Lenient c block (take n out)
       → (length (xs ++ drop n out) ≡ 8185) × (take (samplesOf c (length block)) (xs ++ drop n out) ≡ decodedMsBlock c block)
   unfolding decodeMs
   decodes k n xs out n-is size e =

@@ -1,10 +1,12 @@
--- What the program `repack` prints. Assumes nothing.
+-- What the programs `repack` and `repack_lenient` print: the one reads strictly, and the other leniently. Assumes nothing.
 use mathlib.Core.Bool.{Bool, cond}
 use mathlib.Core.List.{List, _++_}
 use mathlib.Core.Option.{Option}
 use Prim.Native.Nat.{ℕ}
 use lib.Dec.{eqb}
 use lib.ListN.{length}
+use Rattle.ms_block.specs.declared.Reading.{Reading}
+use Rattle.ms_block.specs.Readings.{readBy}
 use Rattle.ms_block.specs.Sizes.{repackRefusal}
 use Rattle.ms_block.specs.Block.{decodedMsBlock}
 use Rattle.ms_repacked.specs.Repack.{repacked, anyChange}
@@ -26,9 +28,11 @@ bothLines c block =
     let new = repacked c block in
     firstLine (anyChange block new) (lossOf c block new) ++ line (hex new)
 
--- 4 is tested first, then 1 and 2.
-unfoldable pub answerFor : ℕ → List ℕ → List ℕ
-answerFor c block = let number = repackRefusal c (length block) (length block) in cond (eqb number 0) (bothLines c block) (refusalLine number)
+-- 4 is tested first, then 1 and 2, and then 8 by the program that reads strictly.
+unfoldable pub answerFor : Reading → ℕ → List ℕ → List ℕ
+answerFor reading c block =
+    let number = readBy reading c block (repackRefusal c (length block) (length block)) in
+    cond (eqb number 0) (bothLines c block) (refusalLine number)
 
-unfoldable pub answerTo : List ℕ → List ℕ
-answerTo input = cond (wellFormed input) (answerFor (channelsOf input) (blockOf input)) (refusalLine 4)
+unfoldable pub answerTo : Reading → List ℕ → List ℕ
+answerTo reading input = cond (wellFormed input) (answerFor reading (channelsOf input) (blockOf input)) (refusalLine 4)

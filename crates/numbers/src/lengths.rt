@@ -2,9 +2,9 @@
 use crate::say::number;
 use crate::say::text;
 use adpcm_ima::AdpcmImaState;
-use ms_decode::decode_adpcm_ima_ms;
 use ms_encode::encode_adpcm_ima_ms;
 use ms_layout::MOST;
+use ms_strict::decode_adpcm_ima_ms;
 use num::monus;
 ghost use Prim.Native.Nat.{_≤_};
 ghost use lib.ListN.{length};

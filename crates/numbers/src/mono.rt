@@ -2,8 +2,8 @@
 use crate::say::byte;
 use crate::say::signed_number;
 use crate::say::text;
-use ms_decode::decode_adpcm_ima_ms;
-use repacking::repack_adpcm_ima_ms;
+use ms_strict::decode_adpcm_ima_ms;
+use ms_strict::repack_adpcm_ima_ms;
 
 pub(crate) fn show() {
     let block = [0u8, 0, 0, 0, 0x17];

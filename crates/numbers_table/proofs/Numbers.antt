@@ -7,6 +7,7 @@ use Rattle.ima_nibble.specs.Series.{decoded, encoded, nibblesOf, packed}
 use Rattle.ima_nibble.specs.Step.{stepAt, m, predicted, indexed, stepped, greedy, nibbleOf}
 use Rattle.ima_nibble.specs.Table.{imaSteps}
 use Rattle.ms_block.specs.Header.{headOf}
+use Rattle.ms_block.specs.Readings.{soundHeaders}
 use Rattle.ms_block.specs.Sizes.{msRefusal, repackRefusal}
 use Rattle.ms_block.specs.Weave.{strand, woven}
 use Rattle.ms_block.specs.Block.{decodedChannel, encodedChannel, decodedMsBlock, begun, blockFrom}
@@ -17,6 +18,6 @@ use Rattle.numbers_table.specs.Numbers.{numbers, leftColumn, rightColumn
 pub numbers-hold : leftColumn numbers ≡ rightColumn numbers
 unfolding stepAt m predicted indexed stepped greedy nibbleOf imaSteps decoded encoded nibblesOf packed
     sampleOf segment fourBits codeOf digitsIn bitLength
-    from strand woven headOf msRefusal decodedChannel encodedChannel decodedMsBlock begun blockFrom decodeMs
+    from strand woven headOf msRefusal soundHeaders decodedChannel encodedChannel decodedMsBlock begun blockFrom decodeMs
     repacked anyChange repackRefusal repackMs
 numbers-hold = refl

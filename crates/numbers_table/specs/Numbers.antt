@@ -1,6 +1,6 @@
 -- 'Numbers to hold' of the scope: those that are marked P, as one table, in the scope's order and under its words. A row has what a
 -- definition gives, and what the scope says. Each definition is the one that a call's contract equates its whole answer with, for all inputs
--- (adpcm_ima, g711, ms_decode, repacking), so what the table says of the definitions holds of the calls. Assumes nothing.
+-- (adpcm_ima, g711, ms_strict), so what the table says of the definitions holds of the calls. Assumes nothing.
 use mathlib.Core.Bool.{false}
 use mathlib.Core.List.{List, [], _∷_}
 use Prim.Native.Nat.{ℕ}
@@ -9,6 +9,7 @@ use Rattle.num.specs.Outcome.{outcome}
 use Rattle.g711.specs.Law.{mu-law, A-law, sampleOf, codeOf}
 use Rattle.ima_nibble.specs.Step.{State, state, sixteen, stepped, emitted}
 use Rattle.ima_nibble.specs.Table.{imaSteps}
+use Rattle.ms_block.specs.declared.Reading.the-variants.{Strict}
 use Rattle.ms_block.specs.Call.{decodeMs}
 use Rattle.ms_repacked.specs.Repack.{repackMs}
 
@@ -71,8 +72,8 @@ numbers =
     -- encode (32758,0): 32767 gives 5 and (32766,4).
     encode (state (pos 32758) 0) (pos 32767) gives (5, state (pos 32766) 4) ∷
     -- mono `00 00 00 00 17` decodes to 0, 11, 17 and repacks to itself.
-    decodeMs 1 mono samples gives outcome 0 tt (pos 0 ∷ pos 11 ∷ pos 17 ∷ []) ∷
-    repackMs 1 mono bytes gives outcome 0 false mono ∷
+    decodeMs Strict 1 mono samples gives outcome 0 tt (pos 0 ∷ pos 11 ∷ pos 17 ∷ []) ∷
+    repackMs Strict 1 mono bytes gives outcome 0 false mono ∷
     -- mu-law 0x7f decodes to 0, and 0 encodes to 0xff. A-law 0xd5 decodes to 8.
     sampleOf mu-law 0x7f gives pos 0 ∷
     codeOf mu-law (pos 0) gives 0xff ∷

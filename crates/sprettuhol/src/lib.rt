@@ -253,7 +253,10 @@ pub extern "C" fn spr_repack_ms_lenient(
 ) -> u8
     ensures { λ r. ⌜ outcome r (now (changed .exit)) (now (repacked .exit)) ≡ repackCall Lenient channels (now (block .entry)) (now (repacked .entry)) (now (changed .entry)) ⌝ }
 {
-    tell_change(repack_adpcm_ima_ms_lenient(channels, block, repacked), changed)
+    tell_change(
+        repack_adpcm_ima_ms_lenient(channels, block, repacked),
+        changed,
+    )
 }
 
 // Stores whether a byte changed, unless the call was refused.

@@ -27,17 +27,17 @@ returns c =
     let r = read .read in
     let zeros = array read .zero-bytes in
     let put = c .put-refusal in
-    let is = none (a .input .now) (zeros .result) (r .last .1 .0) (r .result .refusal) (r .result .channels) (r .result .length) (zeros .ensures) (r .ensures) (c .before .before .if1 .taken) in
+    let is = none (a .reading) (a .input .now) (zeros .result) (r .last .1 .0) (r .result .refusal) (r .result .channels) (r .result .length) (zeros .ensures) (r .ensures) (c .before .before .if1 .taken) in
     let stands = subst (λ (text : List ℕ). Stands out 0 text (put .result) (put .last .1 .0)) (sym is) (put .ensures) in
-    (stands, counts out (answerTo (a .input .now)) (put .last .1 .0) (put .result) stands)
+    (stands, counts out (answerTo (a .reading) (a .input .now)) (put .last .1 .0) (put .result) stands)
 
 -- the block that was read
-read-block : (c : tie.Else1) → let read = c .before .before in let r = read .read in Asked (start read .args .input .now) (r .result .channels) (r .result .length) (r .last .1 .0)
+read-block : (c : tie.Else1) → let read = c .before .before in let r = read .read in Asked (start read .args .reading) (start read .args .input .now) (r .result .channels) (r .result .length) (r .last .1 .0)
 read-block c =
     let read = c .before .before in
     let r = read .read in
     let zeros = array read .zero-bytes in
-    asked (start read .args .input .now) (zeros .result) (r .last .1 .0) (r .result .refusal) (r .result .channels) (r .result .length) (zeros .ensures) (r .ensures) (c .if1 .left)
+    asked (start read .args .reading) (start read .args .input .now) (zeros .result) (r .last .1 .0) (r .result .refusal) (r .result .channels) (r .result .length) (zeros .ensures) (r .ensures) (c .if1 .left)
 
 array-share-prefix-block : tie.Need-array-share-prefix-block
 array-share-prefix-block c = let block = read-block c in omega (arith, block .few, block .long)
@@ -58,8 +58,8 @@ returns-2 c =
     let a = start (at .before .before) .args in
     let out = a .out .now in
     let answer = c .answer-block in
-    let stands = subst (λ (text : List ℕ). Stands out 0 text (answer .result) (answer .last .1 .1 .0)) (sym (read-block at .asks)) (answer .ensures) in
-    (stands, counts out (answerTo (a .input .now)) (answer .last .1 .1 .0) (answer .result) stands)
+    let stands = subst (λ (text : List ℕ). Stands out 0 text (answer .result) (answer .last .1 .1 .1 .0)) (sym (read-block at .asks)) (answer .ensures) in
+    (stands, counts out (answerTo (a .reading) (a .input .now)) (answer .last .1 .1 .1 .0) (answer .result) stands)
 
 pub answer-spec : {M : Type 1} → statement M
 answer-spec =

@@ -15,14 +15,14 @@ use Rattle.answer.proofs.answer_block.Statement.{statement}
 use Rattle.answer.proofs.answer_block.Tie as tie
 
 -- the array that the block is repacked into, and the arguments, from behind repacking
-abbrev array : tie.After-repack-adpcm-ima-ms → tie.After-zero-bytes
+abbrev array : tie.After-repack-block → tie.After-zero-bytes
 array c = c .before .before
 
-abbrev start : tie.After-repack-adpcm-ima-ms → tie.Start
+abbrev start : tie.After-repack-block → tie.Start
 start c = array c .before .before
 
-slice-aggregate-repack-adpcm-ima-ms : tie.Need-slice-aggregate-repack-adpcm-ima-ms
-slice-aggregate-repack-adpcm-ima-ms c =
+slice-aggregate-repack-block : tie.Need-slice-aggregate-repack-block
+slice-aggregate-repack-block c =
     let s = c .before .before .before in
     let zeros = c .before .zero-bytes in
     sym (length-take-le (length (s .args .block .now)) (zeros .result) (omega (arith, s .pre, zeros .ensures)))
@@ -32,26 +32,26 @@ returns c =
     let at = c .before .before .before .before .before in
     let s = start at in
     let a = s .args in
-    let r = at .repack-adpcm-ima-ms in
+    let r = at .repack-block in
     let zeros = array at .zero-bytes in
     let put = c .put-refusal in
-    let is = refuses (a .channels) (a .block .now) (zeros .result) (r .last .1 .1 .0) (r .result .refusal) (r .result .changed) (s .pre) (zeros .ensures) (r .ensures) (c .before .before .if1 .taken) in
+    let is = refuses (a .reading) (a .channels) (a .block .now) (zeros .result) (r .last .1 .1 .1 .0) (r .result .refusal) (r .result .changed) (s .pre) (zeros .ensures) (r .ensures) (c .before .before .if1 .taken) in
     subst (λ (text : List ℕ). Stands (a .out .now) 0 text (put .result) (put .last .1 .0)) (sym is) (put .ensures)
 
 -- the array, with what was repacked in its first places
-abbrev filled : tie.After-repack-adpcm-ima-ms → List ℕ
-filled c = c .repack-adpcm-ima-ms .last .1 .1 .0 ++ drop (length (start c .args .block .now)) (array c .zero-bytes .result)
+abbrev filled : tie.After-repack-block → List ℕ
+filled c = c .repack-block .last .1 .1 .1 .0 ++ drop (length (start c .args .block .now)) (array c .zero-bytes .result)
 
 -- behind the test of the number
-abbrev at : tie.Else1 → tie.After-repack-adpcm-ima-ms
+abbrev at : tie.Else1 → tie.After-repack-block
 at c = c .before .before .before
 
-new : (c : tie.Else1) → let a = start (at c) .args in Made (a .channels) (a .block .now) (at c .repack-adpcm-ima-ms .result .changed) (filled (at c))
+new : (c : tie.Else1) → let a = start (at c) .args in Made (a .reading) (a .channels) (a .block .now) (at c .repack-block .result .changed) (filled (at c))
 new c =
     let s = start (at c) in
-    let r = at c .repack-adpcm-ima-ms in
+    let r = at c .repack-block in
     let zeros = array (at c) .zero-bytes in
-    made (s .args .channels) (s .args .block .now) (zeros .result) (r .last .1 .1 .0) (r .result .refusal) (r .result .changed) (s .pre) (zeros .ensures) (r .ensures) (c .if1 .left)
+    made (s .args .reading) (s .args .channels) (s .args .block .now) (zeros .result) (r .last .1 .1 .1 .0) (r .result .refusal) (r .result .changed) (s .pre) (zeros .ensures) (r .ensures) (c .if1 .left)
 
 room : (c : tie.Else1) → length (start (at c) .args .block .now) ≤ length (filled (at c))
 room c = omega (arith, start (at c) .pre, new c .size)
@@ -76,7 +76,7 @@ returns-2 c =
     let bytes = take (length (a .block .now)) (filled (at behind)) in
     let put = arg .before .put-first-line in
     let digits = c .before .before .before .put-hex in
-    let first = firstLine (at behind .repack-adpcm-ima-ms .result .changed) (lossOf (a .channels) (a .block .now) bytes) in
+    let first = firstLine (at behind .repack-block .result .changed) (lossOf (a .channels) (a .block .now) bytes) in
     let (s₁, few) = put .ensures in
     let room = as-long out first (put .last .1 .1 .1 .1 .0) (put .result) s₁ few (line-size arg) in
     let l₁ = length-append first (hex bytes) in
@@ -92,7 +92,7 @@ answer-block-spec =
     (tie.spec
     (λ c κs. search needs)
     (λ c. search needs)
-    slice-aggregate-repack-adpcm-ima-ms
+    slice-aggregate-repack-block
     (λ c κs. search needs)
     (λ c κs. search needs)
     returns

@@ -18,8 +18,8 @@ room c =
 array-borrow-prefix-out : tie.Need-array-borrow-prefix-out
 array-borrow-prefix-out c = room c
 
-slice-aggregate-decode-adpcm-ima-ms : tie.Need-slice-aggregate-decode-adpcm-ima-ms
-slice-aggregate-decode-adpcm-ima-ms c = sym (length-take-le (c .before .before .samples .result) (c .before .zero-samples .result) (room (c .before)))
+slice-aggregate-decode-adpcm-ima-ms-lenient : tie.Need-slice-aggregate-decode-adpcm-ima-ms-lenient
+slice-aggregate-decode-adpcm-ima-ms-lenient c = sym (length-take-le (c .before .before .samples .result) (c .before .zero-samples .result) (room (c .before)))
 
 returns : tie.Need-returns
 returns c =
@@ -28,7 +28,7 @@ returns c =
     let s = many .before .before in
     let a = s .args in
     let out = zeros .zero-samples in
-    let decode = c .before .decode-adpcm-ima-ms in
+    let decode = c .before .decode-adpcm-ima-ms-lenient in
     let n-is = many .samples .ensures ∙ samples-are (a .channels) (a .block .now) (s .pre) in
     decodes (a .channels) (a .block .now) (s .pre) (decode .result) (many .samples .result) (decode .last .1 .1 .0) (out .result) n-is (out .ensures) (decode .ensures)
 
@@ -39,6 +39,6 @@ samples-of-spec =
     (λ c κs. search needs)
     (λ c κs. search needs)
     array-borrow-prefix-out
-    slice-aggregate-decode-adpcm-ima-ms
+    slice-aggregate-decode-adpcm-ima-ms-lenient
     (λ c κs. search needs)
     returns)
