@@ -62,6 +62,10 @@ by-repacking c m block is taken =
       writes = refl;
     }
 
+-- the index of a channel that the encoder could have started from
+held : {c : ℕ} {block : List ℕ} (w : Written c block) (e : ℕ) → stateIn (w .states) e .index ≤ 88
+held w e = all-at (λ (s : State). s .index ≤ 88) (w .states) e (state (pos 0) 0) (omega arith) (w .indices)
+
 -- And what the encoder wrote, repacking leaves as it was, channel by channel.
 as-written : (c : ℕ) (block : List ℕ) → Written c block → repacked c block ≡ block
 as-written c block w =
@@ -72,8 +76,7 @@ as-written c block w =
     let own = ap (λ (bs : List ℕ). bytesIn c bs e) (sym (w .writes)) ∙ channel-begun (w .samples) is e h (w .states) in
     channel-again block is e h
     ∙ ap again own
-    ∙ settled (length block / c - 4) st (samplesIn c (w .samples) e) (samples-many (w .samples) is e h) (first-within (w .samples) is e h (w .within))
-    (all-at (λ (s : State). s .index ≤ 88) (w .states) e (state (pos 0) 0) (omega arith) (w .indices))
+    ∙ settled (length block / c - 4) st (samplesIn c (w .samples) e) (samples-many (w .samples) is e h) (first-within (w .samples) is e h (w .within)) (held w e)
     (samples-within c (w .samples) e (w .within))
     ∙ sym own)
 
@@ -93,9 +96,7 @@ as-decoded c m block other is taken long indices same =
 
 -- What the encoder could have written has no index above 88,
 sound : (c : ℕ) (block : List ℕ) → Written c block → soundHeaders c block ≡ true
-sound c block w =
-    let held : (e : ℕ) → e < c → stateIn (w .states) e .index ≤ 88 = λ e h. all-at (λ (s : State). s .index ≤ 88) (w .states) e (state (pos 0) 0) (omega arith) (w .indices) in
-    subst (λ (bs : List ℕ). soundHeaders c bs ≡ true) (w .writes) (written-sound c (w .samples) (w .states) block (w .taken) held)
+sound c block w = subst (λ (bs : List ℕ). soundHeaders c bs ≡ true) (w .writes) (written-sound c (w .samples) (w .states) block (w .taken) (λ e h. held w e))
 
 -- so either reading accepts it: it refuses such a block only where the channel number or the lengths do.
 pub accepted : (reading : Reading) (c : ℕ) (block : List ℕ) → Written c block → (number : ℕ) → readBy reading c block number ≡ number

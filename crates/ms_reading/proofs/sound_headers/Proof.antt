@@ -26,7 +26,7 @@ returns c =
     let test = c .before .before in
     let loop = test .before in
     let a = loop .before .before .args in
-    sym (unsound (a .channels) (a .block .now) (loop .loop .ch) (test .loop-test .taken) (omega (arith, c .before .byte-at .ensures, c .if1 .taken)))
+    sym (unsound (a .channels) (a .block .now) (loop .loop .ch) (omega (arith, test .loop-test .taken)) (omega (arith, c .before .byte-at .ensures, c .if1 .taken)))
 
 loop-again : tie.Need-loop-again Inv-loop μ-loop
 loop-again c =
