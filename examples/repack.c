@@ -41,16 +41,20 @@ static void repack(uint8_t channels, const uint8_t *block, size_t len)
         puts("refused: a block has one channel or two");
     else if (refusal == SPR_REFUSED_LENGTHS)
         puts("refused: no block has that length");
+    else if (refusal == SPR_REFUSED_STEP_INDEX)
+        puts("refused: a header has a step index above 88");
 }
 
 int main(void)
 {
     const uint8_t clips[] = {0xf6, 0x7f, 0x00, 0x00, 0x07}; /* its nibble 7 passes 32767 */
     const uint8_t marked[] = {0x00, 0x00, 0x00, 0x2a, 0x17}; /* its fourth byte is not 0 */
+    const uint8_t broken[] = {0x00, 0x00, 0xc8, 0x00, 0x17}; /* its step index is 200 */
     const uint8_t plain[] = {0x00, 0x00, 0x00, 0x00, 0x17};
     repack(1, clips, sizeof clips);
     repack(1, marked, sizeof marked);
     repack(1, plain, sizeof plain);
+    repack(1, broken, sizeof broken);
     repack(2, plain, sizeof plain);
     repack(3, plain, sizeof plain);
     return 0;

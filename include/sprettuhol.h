@@ -34,17 +34,18 @@
 #include <stddef.h>
 #include <stdint.h>
 
-/* The version of this header, 0.3.0: 10,000 for each major number, 100 for each minor one, 1 for each patch. */
-#define SPR_VERSION 300
+/* The version of this header, 0.4.0: 10,000 for each major number, 100 for each minor one, 1 for each patch. */
+#define SPR_VERSION 400
 
 /* What the calls that can refuse return. Each number is given for its cause alone, and always then; the
- * channel number is tested before the lengths, and an index after the run's bytes and before its samples. No
- * call returns 4, which is the program repack's. */
+ * channel number is tested before the lengths, and these before the step indices of a block. An index of a run is
+ * tested after the run's bytes and before its samples. No call returns 4, which is the program repack's. */
 #define SPR_DONE 0
-#define SPR_REFUSED_CHANNELS 1 /* MS: the channel number is not 1 or 2 */
-#define SPR_REFUSED_LENGTHS 2  /* MS, loss: a length is not allowed, or two do not fit each other */
-#define SPR_REFUSED_BLOCKS 3   /* ima4: not 34 bytes and 64 samples a block, or over 1,024 blocks */
-#define SPR_REFUSED_INDEX 5    /* ima4 index: not 1 to 64 blocks a state, an unfitting record, or no such block */
+#define SPR_REFUSED_CHANNELS 1   /* MS: the channel number is not 1 or 2 */
+#define SPR_REFUSED_LENGTHS 2    /* MS, loss: a length is not allowed, or two do not fit each other */
+#define SPR_REFUSED_BLOCKS 3     /* ima4: not 34 bytes and 64 samples a block, or over 1,024 blocks */
+#define SPR_REFUSED_INDEX 5      /* ima4 index: not 1 to 64 blocks a state, an unfitting record, or no such block */
+#define SPR_REFUSED_STEP_INDEX 8 /* MS, read strictly: a step index above 88 in a header */
 
 #define SPR_NOWHERE UINT32_MAX /* spr_loss: there is no first place that differs */
 
@@ -187,12 +188,21 @@ uint8_t spr_ima4_reindex(const uint8_t *bytes, size_t bytes_len, size_t from, ui
  * Samples of two channels are interleaved, the left one first.
  *
  * Reads `block` and writes all of `samples`. Each channel starts from its header, whose predictor is the first
- * sample; an index above 88 is read as 88. No state goes in or comes back: a block decodes by itself.
+ * sample. No state goes in or comes back: a block decodes by itself.
+ *
+ * This call reads strictly. The step table ends at 88, so an index above 88 is a fault: of the file, or of
+ * whoever took these bytes for a block. The headers of the channels used are looked at; with one channel the
+ * seventh byte is data, whatever it is.
  *
  * SPR_REFUSED_CHANNELS: `channels` is not 1 or 2. SPR_REFUSED_LENGTHS: `block_len` is not allowed, or
- * `samples_len` does not fit it. Then `samples` does not change. */
+ * `samples_len` does not fit it. SPR_REFUSED_STEP_INDEX: a header has an index above 88. Then `samples` does not
+ * change. */
 uint8_t spr_decode_ms(uint8_t channels, const uint8_t *block, size_t block_len, int16_t *samples,
                       size_t samples_len);
+
+/* The same, read leniently: an index above 88 is taken as 88, and nothing is refused for it. */
+uint8_t spr_decode_ms_lenient(uint8_t channels, const uint8_t *block, size_t block_len, int16_t *samples,
+                              size_t samples_len);
 
 /* Samples to one MS block.
  *
@@ -200,21 +210,27 @@ uint8_t spr_decode_ms(uint8_t channels, const uint8_t *block, size_t block_len, 
  * sample of a channel takes the place of its predictor. Writes all of `block`, and the states behind the last
  * samples. The header has the index as it is given, even above 88, and a fourth byte of 0. The first nibble
  * lowers such an index; a block of one sample for each channel has none, and hands the index back as given. With
- * one channel the second elements of both arrays come back as they went in.
+ * one channel the second elements of both arrays come back as they went in. A block that is written from an index
+ * above 88 is refused by the calls that read strictly, so pass indices of 0 to 88.
  *
  * SPR_REFUSED_CHANNELS and SPR_REFUSED_LENGTHS: as in decoding. Then neither `block` nor a state changes. */
 uint8_t spr_encode_ms(uint8_t channels, const int16_t *samples, size_t samples_len, int16_t predictors[2],
                       uint8_t step_indices[2], uint8_t *block, size_t block_len);
 
-/* An MS block, decoded and encoded again, from the indices of its own header, each above 88 taken as 88.
+/* An MS block, decoded and encoded again, from the indices of its own header.
  *
- * Reads `block`. Writes all of `repacked`, and to `changed` 1 if any byte differs from the block's, else 0.
- * Repacking what was repacked changes nothing.
+ * Reads `block`, strictly, as spr_decode_ms does. Writes all of `repacked`, and to `changed` 1 if any byte differs
+ * from the block's, else 0. Repacking what was repacked changes nothing.
  *
  * SPR_REFUSED_CHANNELS: `channels` is not 1 or 2. SPR_REFUSED_LENGTHS: `block_len` is not allowed, or
- * `repacked_len` is another. Then neither `repacked` nor `changed` changes. */
+ * `repacked_len` is another. SPR_REFUSED_STEP_INDEX: as in decoding. Then neither `repacked` nor `changed`
+ * changes. */
 uint8_t spr_repack_ms(uint8_t channels, const uint8_t *block, size_t block_len, uint8_t *repacked,
                       size_t repacked_len, uint8_t *changed);
+
+/* The same, read leniently: an index above 88 is taken as 88, and `repacked` has 88. */
+uint8_t spr_repack_ms_lenient(uint8_t channels, const uint8_t *block, size_t block_len, uint8_t *repacked,
+                              size_t repacked_len, uint8_t *changed);
 
 /* What differs between two runs of equal length, 0 to 131,063 samples.
  *

@@ -155,15 +155,33 @@ static void ima4_runs(void)
     }
 }
 
-/* Both MS calls on given bytes and samples, of lengths that may fit. */
-static void ms_call(uint8_t channels, size_t n, size_t m, int number)
+/* Strict reading: what it makes of the number that channels and lengths give. */
+static int strictly(uint8_t channels, const uint8_t *block, int number)
+{
+    for (size_t c = 0; number == SPR_DONE && c < channels; c++)
+        if (block[4 * c + 2] > 88)
+            number = SPR_REFUSED_STEP_INDEX;
+    return number;
+}
+
+typedef uint8_t decoder(uint8_t, const uint8_t *, size_t, int16_t *, size_t);
+
+static void ms_decode(decoder *decode, uint8_t channels, size_t n, size_t m, int number)
 {
     const int taken = number == SPR_DONE;
     fill();
-    CHECK(spr_decode_ms(channels, given_bytes, n, samples, m) == number);
+    CHECK(decode(channels, given_bytes, n, samples, m) == number);
     CHECK(kept(0, taken ? m : 0));
     if (taken)
         ms_decoded(channels, m);
+}
+
+/* Both readings, and the encoder, on given bytes and samples, of lengths that may fit. */
+static void ms_call(uint8_t channels, size_t n, size_t m, int number)
+{
+    const int taken = number == SPR_DONE;
+    ms_decode(spr_decode_ms_lenient, channels, n, m, number);
+    ms_decode(spr_decode_ms, channels, n, m, strictly(channels, given_bytes, number));
     fill();
     CHECK(spr_encode_ms(channels, given_samples, m, predictors + 1, indices + 1, bytes, n) == number);
     CHECK(kept(taken ? n : 0, 0) && stay_but(taken ? channels : 0));
@@ -195,12 +213,14 @@ static void ms_lengths(void)
     CHECK(SPR_MS_MOST_BYTES == 65535 && SPR_LOSS_MOST_SAMPLES == SPR_MS_SAMPLES(1, SPR_MS_MOST_BYTES));
 }
 
+typedef uint8_t repacker(uint8_t, const uint8_t *, size_t, uint8_t *, size_t, uint8_t *);
+
 /* Repacking is decoding and encoding, from the header's indices, lowered; a second time changes nothing. */
-static void repack_call(uint8_t channels, const uint8_t *block, size_t n, size_t n2, int number)
+static void ms_repack(repacker *repack, uint8_t channels, const uint8_t *block, size_t n, size_t n2, int number)
 {
     uint8_t changed[3] = {FILL, FILL, FILL}, *twice = bytes + n, *again = bytes + 2 * n;
     fill();
-    CHECK(spr_repack_ms(channels, block, n, bytes, n2, changed + 1) == number);
+    CHECK(repack(channels, block, n, bytes, n2, changed + 1) == number);
     CHECK(kept(number == SPR_DONE ? n : 0, 0) && changed[0] == FILL && changed[2] == FILL);
     if (number != SPR_DONE) {
         CHECK(changed[1] == FILL);
@@ -212,11 +232,18 @@ static void repack_call(uint8_t channels, const uint8_t *block, size_t n, size_t
     for (size_t c = 0; c < channels; c++)
         indices[1 + c] = block[4 * c + 2] < 88 ? block[4 * c + 2] : 88;
     const size_t m = SPR_MS_SAMPLES(channels, n);
-    CHECK(spr_decode_ms(channels, block, n, samples, m) == SPR_DONE);
+    CHECK(spr_decode_ms_lenient(channels, block, n, samples, m) == SPR_DONE);
     CHECK(spr_encode_ms(channels, samples, m, predictors + 1, indices + 1, again, n) == SPR_DONE);
     CHECK(memcmp(bytes, again, n) == 0);
-    CHECK(spr_repack_ms(channels, bytes, n, twice, n, changed + 1) == SPR_DONE);
+    CHECK(repack(channels, bytes, n, twice, n, changed + 1) == SPR_DONE);
     CHECK(changed[1] == 0 && memcmp(bytes, twice, n) == 0);
+}
+
+/* Both readings; the lenient one is the last, so that its bytes can be looked at. */
+static void repack_call(uint8_t channels, const uint8_t *block, size_t n, size_t n2, int number)
+{
+    ms_repack(spr_repack_ms, channels, block, n, n2, strictly(channels, block, number));
+    ms_repack(spr_repack_ms_lenient, channels, block, n, n2, number);
 }
 
 static void repacks(void)
@@ -237,19 +264,39 @@ static void repacks(void)
 }
 
 /* What SPR_MS_SAMPLES counts the calls take, and where it is 0 they refuse: to 300 bytes, and about the most. */
-static void ms_counts(void)
+static void ms_count(uint8_t channels)
+{
+    const int refusal = channels == 1 || channels == 2 ? SPR_REFUSED_LENGTHS : SPR_REFUSED_CHANNELS;
+    for (row = 0; row < 65540; row += row == 300 ? 65200 : 1) {
+        const size_t n = (size_t)row, m = SPR_MS_SAMPLES(channels, n);
+        const int number = m > 0 ? SPR_DONE : refusal;
+        ms_call(channels, n, m, number);
+        repack_call(channels, given_bytes, n, n, number);
+        repack_call(channels, given_bytes, n, n + 1, refusal);
+    }
+}
+
+/* Every index in the place of either header's, and with one channel in the seventh byte, beside the highest that is
+ * taken. Then all lengths, with one of 200. */
+static void ms_indices(void)
 {
     static const uint8_t numbers[] = {0, 1, 2, 3, 255};
-    for (size_t k = 0; k < sizeof numbers; k++)
-        for (row = 0; row < 65540; row += row == 300 ? 65200 : 1) {
-            const uint8_t channels = numbers[k];
-            const size_t n = (size_t)row, m = SPR_MS_SAMPLES(channels, n);
-            const int refusal = channels == 1 || channels == 2 ? SPR_REFUSED_LENGTHS : SPR_REFUSED_CHANNELS;
-            const int number = m > 0 ? SPR_DONE : refusal;
-            ms_call(channels, n, m, number);
-            repack_call(channels, given_bytes, n, n, number);
-            repack_call(channels, given_bytes, n, n + 1, refusal);
+    const uint8_t first[2] = {given_bytes[2], given_bytes[6]};
+    given_bytes[2] = given_bytes[6] = 88;
+    for (uint8_t channels = 1; channels <= 2; channels++)
+        for (size_t c = 0; c < 2; c++) {
+            for (row = 0; row < 256; row++) {
+                given_bytes[4 * c + 2] = (uint8_t)row;
+                ms_call(channels, 16, SPR_MS_SAMPLES(channels, 16), SPR_DONE);
+                repack_call(channels, given_bytes, 16, 16, SPR_DONE);
+            }
+            given_bytes[4 * c + 2] = 88;
         }
+    for (size_t k = 0; k < 2 * sizeof numbers; k++) {
+        given_bytes[2] = given_bytes[6] = k % 2 ? 200 : 88;
+        ms_count(numbers[k / 2]);
+    }
+    given_bytes[2] = first[0], given_bytes[6] = first[1];
 }
 
 /* The three numbers stand between guards, and are the filled ones after a refusal. */
@@ -326,7 +373,7 @@ int main(void)
     seek_cuts();
     ms_lengths();
     repacks();
-    ms_counts();
+    ms_indices();
     losses();
     CHECK(memcmp(first_bytes, given_bytes, sizeof given_bytes) == 0);
     CHECK(memcmp(first_samples, given_samples, sizeof given_samples) == 0);
