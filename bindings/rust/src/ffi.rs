@@ -62,6 +62,13 @@ mod c {
             samples: *mut i16,
             samples_len: usize,
         ) -> u8;
+        pub fn spr_decode_ms_lenient(
+            channels: u8,
+            block: *const u8,
+            block_len: usize,
+            samples: *mut i16,
+            samples_len: usize,
+        ) -> u8;
         pub fn spr_encode_ms(
             channels: u8,
             samples: *const i16,
@@ -72,6 +79,14 @@ mod c {
             block_len: usize,
         ) -> u8;
         pub fn spr_repack_ms(
+            channels: u8,
+            block: *const u8,
+            block_len: usize,
+            repacked: *mut u8,
+            repacked_len: usize,
+            changed: *mut u8,
+        ) -> u8;
+        pub fn spr_repack_ms_lenient(
             channels: u8,
             block: *const u8,
             block_len: usize,
@@ -217,6 +232,13 @@ pub fn decode_ms(channels: u8, block: &[u8], samples: &mut [i16]) -> u8 {
 }
 
 #[inline(always)]
+pub fn decode_ms_lenient(channels: u8, block: &[u8], samples: &mut [i16]) -> u8 {
+    let (len, samples_len) = (block.len(), samples.len());
+    let (block, samples) = (block.as_ptr(), samples.as_mut_ptr());
+    unsafe { c::spr_decode_ms_lenient(channels, block, len, samples, samples_len) }
+}
+
+#[inline(always)]
 pub fn encode_ms(
     channels: u8,
     samples: &[i16],
@@ -239,6 +261,13 @@ pub fn repack_ms(channels: u8, block: &[u8], changed: &mut u8, repacked: &mut [u
     let (len, repacked_len) = (block.len(), repacked.len());
     let (block, repacked) = (block.as_ptr(), repacked.as_mut_ptr());
     unsafe { c::spr_repack_ms(channels, block, len, repacked, repacked_len, changed) }
+}
+
+#[inline(always)]
+pub fn repack_ms_lenient(channels: u8, block: &[u8], changed: &mut u8, repacked: &mut [u8]) -> u8 {
+    let (len, repacked_len) = (block.len(), repacked.len());
+    let (block, repacked) = (block.as_ptr(), repacked.as_mut_ptr());
+    unsafe { c::spr_repack_ms_lenient(channels, block, len, repacked, repacked_len, changed) }
 }
 
 // SAFETY of the loss report: as of ima4. The report is three numbers of the caller's, borrowed for the

@@ -13,11 +13,16 @@
 //! # In the place of audio-codec-algorithms
 //!
 //! What that crate, in version 0.8.1, has of G.711 and of IMA ADPCM is here by the same names and with
-//! the same signatures. A caller changes one line of Cargo.toml, and nothing else:
+//! the same signatures. A caller changes one line of Cargo.toml:
 //!
 //! ```toml
 //! audio-codec-algorithms = { package = "sprettuhol", path = ".../bindings/rust" }
 //! ```
+//!
+//! Everything compiles as before, unless the caller matches on all variants of [`Error`], which has a third
+//! one. Every call answers as before, but for one: [`decode_adpcm_ima_ms`] refuses a block with a step index
+//! above 88 in a header, which that crate reads as 88. To keep the old behaviour, name
+//! [`lenient::decode_adpcm_ima_ms`].
 //!
 //! Its two calls that turn a code of one law into one of the other are left behind.
 //!
@@ -28,13 +33,16 @@
 //! block on ([`decode_adpcm_ima_ima4_from`]), repacking of MS blocks ([`repack_adpcm_ima_ms`]) and the
 //! loss report ([`loss_report`]). They answer a [`Refusal`] where the ported calls answer an [`Error`].
 //!
+//! The two calls of [`lenient`] take MS blocks with a step index above 88, which those of the same names
+//! here refuse.
+//!
 //! # What is proved
 //!
 //! The library behind these functions is: every call ends, is defined for all inputs, and answers what
-//! a short definition says. It looks at every length and channel number itself; this crate hands them
-//! on as they are, and turns the number that comes back into a `Result`. What is refused changes nothing,
-//! no buffer and no state. This crate itself is not proved; all that is unsafe in it is one file, the
-//! calls over the C interface.
+//! a short definition says. It looks at every length, channel number and step index itself; this crate
+//! hands them on as they are, and turns the number that comes back into a `Result`. What is refused changes
+//! nothing, no buffer and no state. This crate itself is not proved; all that is unsafe in it is one file,
+//! the calls over the C interface.
 //!
 //! # Linking
 //!
@@ -46,6 +54,8 @@
 
 #[allow(unsafe_code)]
 mod ffi;
+
+pub mod lenient;
 
 mod adpcm_ima;
 mod g711;
@@ -73,7 +83,9 @@ mod tests {
     fn the_library_is_of_this_version() {
         let version = crate::ffi::version();
         let numbers = [version / 10_000, version / 100 % 100, version % 100];
-        let parts = env!("CARGO_PKG_VERSION").split('.').map(|part| part.parse::<u32>());
+        let parts = env!("CARGO_PKG_VERSION")
+            .split('.')
+            .map(|part| part.parse::<u32>());
         assert!(parts.eq(numbers.map(Ok)), "{numbers:?}");
     }
 }

@@ -7,16 +7,22 @@ use crate::{ffi, AdpcmImaState, Error};
 /// first.
 ///
 /// A block decodes by itself: each channel starts from its own four header bytes, predictor, index and
-/// a byte that is not looked at. An index above 88 is read as 88.
+/// a byte that is not looked at.
 ///
 /// | | one channel | two channels, `is_stereo` |
 /// |---|---|---|
 /// | `buf`, n bytes | 4 to 65,535 | 8 to 65,528, divisible by 8 |
+/// | step index, 0 to 88 | `buf[2]` | `buf[2]` and `buf[6]` |
 /// | `out_samples` | 2n-7 | 2n-14 |
+///
+/// An index above 88 has no step, so its block is refused. [`lenient::decode_adpcm_ima_ms`] reads it as 88.
+///
+/// [`lenient::decode_adpcm_ima_ms`]: crate::lenient::decode_adpcm_ima_ms
 ///
 /// # Errors
 ///
-/// [`Error::InvalidBufferSize`] for any other length. Then `out_samples` is as it was.
+/// [`Error::InvalidBufferSize`] for any other length, and after that [`Error::InvalidStepIndex`] for an
+/// index above 88. Then `out_samples` is as it was.
 ///
 /// ```
 /// use sprettuhol::{decode_adpcm_ima_ms, Error};
@@ -25,9 +31,22 @@ use crate::{ffi, AdpcmImaState, Error};
 /// decode_adpcm_ima_ms(&[0, 0, 0, 0, 0x17], false, &mut samples)?;
 /// assert_eq!(samples, [0, 11, 17]);
 ///
-/// // not divisible by 8
+/// // an index of 88, and one of 89
+/// decode_adpcm_ima_ms(&[0, 0, 88, 0, 0], false, &mut samples)?;
+/// assert_eq!(samples, [0, 4095, 7819]);
+/// let refused = decode_adpcm_ima_ms(&[0, 0, 89, 0, 0], false, &mut samples);
+/// assert!(matches!(refused, Err(Error::InvalidStepIndex)));
+/// assert_eq!(samples, [0, 4095, 7819]);
+///
+/// // the seventh byte is the right channel's index, and two nibbles of one channel
+/// let block = [0, 0, 0, 0, 0, 0, 0xff, 0];
+/// let refused = decode_adpcm_ima_ms(&block, true, &mut [0; 2]);
+/// assert!(matches!(refused, Err(Error::InvalidStepIndex)));
+/// decode_adpcm_ima_ms(&block, false, &mut [0; 9])?;
+///
+/// // not divisible by 8, which is looked at first
 /// let mut samples = [1; 10];
-/// let refused = decode_adpcm_ima_ms(&[0; 12], true, &mut samples);
+/// let refused = decode_adpcm_ima_ms(&[200; 12], true, &mut samples);
 /// assert!(matches!(refused, Err(Error::InvalidBufferSize)));
 /// assert_eq!(samples, [1; 10]);
 /// # Ok::<(), Error>(())
@@ -50,6 +69,10 @@ pub fn decode_adpcm_ima_ms(
 /// states for the first: the header takes the index as it is, even one above 88, and for its predictor
 /// the first sample.
 ///
+/// So start from indices of 0 to 88, or lower them first. A block that was written from a larger one is
+/// refused by [`decode_adpcm_ima_ms`], and read by
+/// [`lenient::decode_adpcm_ima_ms`](crate::lenient::decode_adpcm_ima_ms).
+///
 /// # Errors
 ///
 /// [`Error::InvalidChannels`] for any other number of states, and after that
@@ -57,7 +80,7 @@ pub fn decode_adpcm_ima_ms(
 /// were.
 ///
 /// ```
-/// use sprettuhol::{encode_adpcm_ima_ms, AdpcmImaState, Error};
+/// use sprettuhol::{decode_adpcm_ima_ms, encode_adpcm_ima_ms, AdpcmImaState, Error};
 ///
 /// let (mut states, mut block) = ([AdpcmImaState::new()], [1; 5]);
 /// encode_adpcm_ima_ms(&[0, 11, 17], &mut states, &mut block)?;
@@ -68,6 +91,8 @@ pub fn decode_adpcm_ima_ms(
 /// encode_adpcm_ima_ms(&[-2], &mut states, &mut block)?;
 /// assert_eq!(block, [0xfe, 0xff, 200, 0]);
 /// assert_eq!((states[0].predictor, states[0].step_index), (-2, 200));
+/// let refused = decode_adpcm_ima_ms(&block, false, &mut [0]);
+/// assert!(matches!(refused, Err(Error::InvalidStepIndex)));
 ///
 /// // three channels; then 10 samples of two
 /// let mut states = vec![AdpcmImaState { predictor: 5, step_index: 200 }; 3];

@@ -17,6 +17,9 @@ pub enum Refusal {
     /// 5: of an index, not 1 to 64 blocks a state, a length or a head that does not fit the run, or no
     /// such block.
     Index,
+    /// 8: of MS blocks, a header with a step index above 88. The calls of [`lenient`](crate::lenient) never
+    /// answer it.
+    StepIndex,
 }
 
 impl Refusal {
@@ -27,8 +30,8 @@ impl Refusal {
     ///
     /// let refused = repack_adpcm_ima_ms(3, &[0; 4], &mut [0; 4]);
     /// assert_eq!(refused.map_err(Refusal::number), Err(1));
-    /// let others = [Refusal::Lengths, Refusal::Blocks, Refusal::Index];
-    /// assert_eq!(others.map(Refusal::number), [2, 3, 5]);
+    /// let others = [Refusal::Lengths, Refusal::Blocks, Refusal::Index, Refusal::StepIndex];
+    /// assert_eq!(others.map(Refusal::number), [2, 3, 5, 8]);
     /// assert_eq!(Refusal::Channels.to_string(), "the channel number is not 1 or 2");
     /// ```
     pub fn number(self) -> u8 {
@@ -37,6 +40,7 @@ impl Refusal {
             Refusal::Lengths => 2,
             Refusal::Blocks => 3,
             Refusal::Index => 5,
+            Refusal::StepIndex => 8,
         }
     }
 }
@@ -48,6 +52,7 @@ impl fmt::Display for Refusal {
             Refusal::Lengths => "a length is not allowed, or two lengths do not fit each other",
             Refusal::Blocks => "not 34 bytes and 64 samples a block, or over 1,024 blocks",
             Refusal::Index => "not 1 to 64 blocks a state, an unfitting index, or no such block",
+            Refusal::StepIndex => "a header has a step index above 88",
         })
     }
 }
@@ -55,6 +60,36 @@ impl fmt::Display for Refusal {
 impl core::error::Error for Refusal {}
 
 /// Why a call on an MS block was refused. Whatever the call would have written is as it was.
+///
+/// audio-codec-algorithms has the first two variants alone. The third one breaks a `match` on these two, and
+/// that is on purpose: the compiler tells whoever matches on all errors that a block can now be refused for
+/// its index.
+///
+/// ```
+/// use sprettuhol::Error;
+///
+/// fn cause(error: Error) -> &'static str {
+///     match error {
+///         Error::InvalidChannels => "channels",
+///         Error::InvalidBufferSize => "length",
+///         Error::InvalidStepIndex => "index",
+///     }
+/// }
+/// assert_eq!(cause(Error::InvalidStepIndex), "index");
+/// ```
+///
+/// Without the third arm it does not compile:
+///
+/// ```compile_fail,E0004
+/// use sprettuhol::Error;
+///
+/// fn cause(error: Error) -> &'static str {
+///     match error {
+///         Error::InvalidChannels => "channels",
+///         Error::InvalidBufferSize => "length",
+///     }
+/// }
+/// ```
 #[derive(Debug)]
 pub enum Error {
     /// The number of channels is not 1 or 2.
@@ -62,6 +97,9 @@ pub enum Error {
 
     /// A length is not allowed, or two lengths do not fit each other.
     InvalidBufferSize,
+
+    /// A header has a step index above 88. The calls of [`lenient`](crate::lenient) never answer it.
+    InvalidStepIndex,
 }
 
 impl fmt::Display for Error {
@@ -69,18 +107,20 @@ impl fmt::Display for Error {
         to.write_str(match self {
             Error::InvalidChannels => "invalid number of channels",
             Error::InvalidBufferSize => "invalid buffer size",
+            Error::InvalidStepIndex => "invalid step index",
         })
     }
 }
 
 impl core::error::Error for Error {}
 
-/// What is no channel number is a buffer's.
+/// Channel numbers and step indices have an error of their own. All else is a buffer's.
 impl From<Refusal> for Error {
     fn from(refusal: Refusal) -> Error {
         match refusal {
             Refusal::Channels => Error::InvalidChannels,
             Refusal::Lengths | Refusal::Blocks | Refusal::Index => Error::InvalidBufferSize,
+            Refusal::StepIndex => Error::InvalidStepIndex,
         }
     }
 }
@@ -92,6 +132,7 @@ pub(crate) fn answer(number: u8) -> Result<(), Refusal> {
         1 => Err(Refusal::Channels),
         3 => Err(Refusal::Blocks),
         5 => Err(Refusal::Index),
+        8 => Err(Refusal::StepIndex),
         // 2. It is proved that there is no other number. If there were, nobody could rely on what was
         // written, so it must not pass for done
         _ => Err(Refusal::Lengths),
@@ -105,23 +146,24 @@ mod tests {
     #[test]
     fn each_number_is_its_own_refusal() {
         assert_eq!(answer(0), Ok(()));
-        for number in [1, 2, 3, 5] {
+        for number in [1, 2, 3, 5, 8] {
             assert_eq!(answer(number).map_err(Refusal::number), Err(number));
         }
     }
 
     #[test]
     fn no_other_number_passes_for_done() {
-        for number in (4..=255).filter(|&number| number != 5) {
+        for number in (4..=255).filter(|number| ![5, 8].contains(number)) {
             assert_eq!(answer(number), Err(Refusal::Lengths), "{number}");
         }
     }
 
     #[test]
-    fn refusals_are_the_errors_of_the_original() {
+    fn refusals_are_errors() {
         assert!(matches!(Refusal::Channels.into(), Error::InvalidChannels));
         for refusal in [Refusal::Lengths, Refusal::Blocks, Refusal::Index] {
             assert!(matches!(refusal.into(), Error::InvalidBufferSize));
         }
+        assert!(matches!(Refusal::StepIndex.into(), Error::InvalidStepIndex));
     }
 }
