@@ -1,13 +1,16 @@
 //! MS blocks, of one channel and of two. There is no end of them, so what a difference could hang on is
 //! gone over one by one: the headers and the states, what the samples are like, the channel number, and
-//! the buffers' lengths. What the scope names by number is held at the end.
+//! the buffers' lengths. All of it is lenient reading, as the oracle reads; strict reading has runs of its
+//! own. What the scope names by number is held at the end.
 
 pub mod block;
 mod both;
 pub mod contents;
 pub mod headers;
 pub mod lengths;
-mod numbers;
+pub mod numbers;
+pub mod readings;
+pub mod strict;
 
 use crate::report::Report;
 
@@ -15,6 +18,7 @@ pub fn reports(progress: bool) -> Vec<Report> {
     let mut reports = vec![headers::decode(progress), headers::encode(progress)];
     reports.extend(contents::reports(progress));
     reports.push(lengths::report(progress));
+    reports.extend(readings::reports(progress));
     numbers::hold();
     reports
 }

@@ -25,6 +25,10 @@ impl<S: Copy + PartialEq + Debug, T: Copy + PartialEq + Debug + From<u8>> Outcom
         Outcome { number, state, all }
     }
 
+    pub fn is_done(&self) -> bool {
+        self.number == 0
+    }
+
     pub fn buffer(&self) -> &[T] {
         &self.all[ROOM..self.all.len() - ROOM]
     }

@@ -3,6 +3,9 @@
 //! not taken. The encoder is lent the states of two channels besides, of which a block of one channel
 //! uses the first. Repacking is lent a number that says whether any byte changed, 1 or 0. bench/ uses this
 //! file too.
+//!
+//! The oracle reads an index above 88 as 88. Our lenient calls do the same, and are held to it. The others
+//! are strict: they refuse such a block by 8.
 
 #[path = "oracle.rs"]
 pub mod oracle;
@@ -27,6 +30,11 @@ pub mod ours {
     }
 
     #[inline(always)]
+    pub fn decode_lenient(channels: u8, block: &[u8], samples: &mut [i16]) -> u8 {
+        ffi::decode_ms_lenient(channels, block, samples)
+    }
+
+    #[inline(always)]
     pub fn encode(channels: u8, samples: &[i16], states: &mut States, block: &mut [u8]) -> u8 {
         let mut predictors = states.map(|(predictor, _)| predictor);
         let mut indices = states.map(|(_, index)| index);
@@ -38,5 +46,10 @@ pub mod ours {
     #[inline(always)]
     pub fn repack(channels: u8, block: &[u8], changed: &mut u8, repacked: &mut [u8]) -> u8 {
         ffi::repack_ms(channels, block, changed, repacked)
+    }
+
+    #[inline(always)]
+    pub fn repack_lenient(channels: u8, block: &[u8], changed: &mut u8, repacked: &mut [u8]) -> u8 {
+        ffi::repack_ms_lenient(channels, block, changed, repacked)
     }
 }

@@ -9,7 +9,7 @@ use std::fmt::Debug;
 pub type Decode = fn(u8, &[u8], &mut [i16]) -> u8;
 pub type Encode = fn(u8, &[i16], &mut States, &mut [u8]) -> u8;
 
-/// The call is lent a buffer for so many samples.
+/// By lenient reading, as the oracle reads. The call is lent a buffer for so many samples.
 pub fn decode(report: &Report, name: impl Debug, channels: u8, block: &[u8], samples_len: usize) {
     let before = block.to_vec();
     let by = |decode: Decode| {
@@ -18,7 +18,7 @@ pub fn decode(report: &Report, name: impl Debug, channels: u8, block: &[u8], sam
         })
     };
     let input = ("decode", channels, block.len(), samples_len, name);
-    by(ours::decode).compare(report, input, &by(oracle::decode));
+    by(ours::decode_lenient).compare(report, input, &by(oracle::decode));
     assert!(block == before, "a call wrote to what it reads");
 }
 

@@ -28,7 +28,7 @@ fn decode_all<const BYTES: usize, const SAMPLES: usize>(
     blocks: impl Iterator<Item = [u8; BYTES]>,
 ) {
     let inputs = blocks.map(|block| (block, ()));
-    let ours = one(|block, _, samples| ours::decode(channels, block, samples));
+    let ours = one(|block, _, samples| ours::decode_lenient(channels, block, samples));
     let oracle = one(|block, _, samples| oracle::decode(channels, block, samples));
     report.compare::<_, (u8, (), [i16; SAMPLES])>(inputs, ours, oracle);
 }

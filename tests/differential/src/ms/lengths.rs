@@ -11,7 +11,7 @@ use crate::signal::noise;
 use std::collections::BTreeSet;
 
 /// No block is longer.
-const LONGEST: usize = 65_536 + 9;
+pub const LONGEST: usize = 65_536 + 9;
 /// An index above the table stays as it was, too.
 const STATES: [States; 2] = [
     [(-12345, 200), (i16::MAX, 255)],
@@ -59,7 +59,7 @@ pub fn blocks() -> BTreeSet<usize> {
 
 /// What fits a block of one channel or of two, and what is one or two off; none, twice as many, and what
 /// looks the same to whoever counts with 16 bits. A very short block goes with all short lengths.
-fn samples(block: usize) -> BTreeSet<usize> {
+pub fn samples(block: usize) -> BTreeSet<usize> {
     let short = if block <= 40 { 0..=80 } else { 0..=0 };
     let blocks = [block, block % 65_536].into_iter();
     let fitting = blocks.flat_map(|block| [1, 2].map(|channels| fitting(channels, block)));

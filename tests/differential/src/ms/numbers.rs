@@ -1,6 +1,7 @@
-//! What the scope names by number, held by both sides.
+//! What the scope names by number, held by both sides. Strict reading is ours alone.
 
-use super::block::{oracle, ours, States};
+use super::block::oracle::{self, fitting};
+use super::block::{ours, States};
 use super::both::{Decode, Encode};
 
 /// A channel number, the length of a block and that of its samples, and the number with which both calls
@@ -25,10 +26,30 @@ const LENGTHS: [(u8, usize, usize, u8); 16] = [
     (255, 65_536, 1, 1),
 ];
 
+/// A channel number, a block, and the number with which strict reading answers it.
+pub const STRICT: [(u8, &[u8], u8); 10] = [
+    (1, &[0, 0, 88, 0], 0),
+    (1, &[0, 0, 89, 0], 8),
+    (1, &[0, 0, 255, 0], 8),
+    // of one channel the seventh byte is two nibbles
+    (1, &[0, 0, 0, 0, 0, 0, 0xff], 0),
+    (2, &[0, 0, 88, 0, 0, 0, 88, 0], 0),
+    (2, &[0, 0, 89, 0, 0, 0, 88, 0], 8),
+    (2, &[0, 0, 88, 0, 0, 0, 89, 0], 8),
+    // the indices are looked at last
+    (1, &[0, 0, 200], 2),
+    (2, &[0, 0, 200, 0, 0, 0, 200, 0, 0, 0, 0, 0], 2),
+    (3, &[0, 0, 200, 0, 0, 0, 200, 0, 0, 0, 200, 0], 1),
+];
+
 /// Ends the run at a number that is another.
 pub fn hold() {
-    let ours: (Decode, Encode) = (ours::decode, ours::encode);
-    for (decode, encode) in [ours, (oracle::decode, oracle::encode)] {
+    let calls: [(Decode, Encode); 3] = [
+        (ours::decode, ours::encode),
+        (ours::decode_lenient, ours::encode),
+        (oracle::decode, oracle::encode),
+    ];
+    for (decode, encode) in calls {
         for (channels, block, samples, number) in LENGTHS {
             let (mut bytes, mut numbers) = (vec![0; block], vec![0; samples]);
             let pair = (channels, block, samples);
@@ -40,6 +61,19 @@ pub fn hold() {
         three_samples(decode);
         raw_index(encode);
     }
+    for (channels, block, number) in STRICT {
+        let len = fitting(channels, block.len());
+        strict(channels, block, len, number);
+    }
+    strict(1, &[0, 0, 200, 0], 2, 2);
+}
+
+/// A call that is refused leaves the samples as they are.
+fn strict(channels: u8, block: &[u8], len: usize, number: u8) {
+    let mut samples = vec![0x5a5a; len];
+    let answer = ours::decode(channels, block, &mut samples);
+    assert_eq!(answer, number, "{:?}", (channels, block, len));
+    assert_eq!(samples == vec![0x5a5a; len], number != 0, "{block:?}");
 }
 
 fn three_samples(decode: Decode) {

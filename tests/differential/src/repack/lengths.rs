@@ -25,7 +25,7 @@ pub fn report(progress: bool) -> Report {
 
 /// The block's own length and what is one or two off, none, what its samples would need, and what looks
 /// the same to whoever counts with 16 bits. A very short block goes with all short lengths.
-fn lengths(block: usize) -> BTreeSet<usize> {
+pub fn lengths(block: usize) -> BTreeSet<usize> {
     let short = if block <= 40 { 0..=80 } else { 0..=0 };
     let about = block.saturating_sub(2)..=block + 2;
     let others = [block % 65_536, block + 65_536, 2 * block, block & !7];

@@ -1,7 +1,8 @@
-//! What the scope names by number, held by both sides.
+//! What the scope names by number, held by both sides. Strict reading is ours alone.
 
 use super::both::{oracle, Repack, LENT};
 use crate::ms::block::ours;
+use crate::ms::numbers::STRICT;
 
 /// A channel number, the lengths of the block and of the second buffer, and the number that answers them.
 const LENGTHS: [(u8, usize, usize, u8); 20] = [
@@ -28,7 +29,7 @@ const LENGTHS: [(u8, usize, usize, u8); 20] = [
     (255, 65_536, 1, 1),
 ];
 
-/// A block of one channel, what it is repacked to, and whether a byte changed.
+/// A block of one channel, what it is repacked to by lenient reading, and whether a byte changed.
 const BLOCKS: [([u8; 5], [u8; 5], u8); 4] = [
     ([0, 0, 0, 0, 0x17], [0, 0, 0, 0, 0x17], 0),
     // the program's example: it is clipped
@@ -41,7 +42,7 @@ const BLOCKS: [([u8; 5], [u8; 5], u8); 4] = [
 
 /// Ends the run at a number that is another.
 pub fn hold() {
-    for repack in [ours::repack as Repack, oracle] {
+    for repack in [ours::repack as Repack, ours::repack_lenient, oracle] {
         for (channels, len, repacked_len, number) in LENGTHS {
             let (block, mut repacked) = (vec![0; len], vec![LENT; repacked_len]);
             let mut changed = LENT;
@@ -51,10 +52,28 @@ pub fn hold() {
             assert_eq!((answer, changed), (number, left), "{lengths:?}");
             assert_eq!(repacked, vec![left; repacked_len], "{lengths:?}");
         }
+    }
+    for repack in [ours::repack_lenient as Repack, oracle] {
         for (block, new, says) in BLOCKS {
             let (mut changed, mut repacked) = (LENT, [LENT; 5]);
             assert_eq!(repack(1, &block, &mut changed, &mut repacked), 0);
             assert_eq!((repacked, changed), (new, says), "{block:x?}");
         }
     }
+    for (channels, block, number) in STRICT {
+        strict(channels, block, block.len(), number);
+    }
+    strict(1, &[0, 0, 200, 0], 5, 2);
+}
+
+/// A block that is taken stays as it is, and a call that is refused leaves all as it was.
+fn strict(channels: u8, block: &[u8], len: usize, number: u8) {
+    let (mut changed, mut repacked) = (LENT, vec![LENT; len]);
+    let answer = ours::repack(channels, block, &mut changed, &mut repacked);
+    let lengths = (channels, block, len);
+    let expected = match number {
+        0 => (0, 0, block.to_vec()),
+        _ => (number, LENT, vec![LENT; len]),
+    };
+    assert_eq!((answer, changed, repacked), expected, "{lengths:?}");
 }
