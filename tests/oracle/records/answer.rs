@@ -1,15 +1,26 @@
-//! What the program has to print for a record, whole.
+//! What a program has to print for a record, whole.
 
 use crate::loss::{loss, NONE};
 use crate::oracle::{decode, repack};
+use crate::strict::{refuses, STEP_INDEX};
 
-pub fn answer(input: &[u8]) -> String {
+/// What a program makes of an index above 88.
+#[derive(Clone, Copy, PartialEq)]
+pub enum Reading {
+    /// `repack` refuses the block.
+    Strict,
+    /// `repack_lenient` reads it as 88, as the oracle does.
+    Lenient,
+}
+
+pub fn answer(reading: Reading, input: &[u8]) -> String {
     let Some((channels, block)) = read(input) else {
         return refused(4);
     };
     let (mut before, mut changed) = (Vec::new(), 0);
     let mut new = vec![0; block.len()];
     match repack(&mut before, channels, block, &mut changed, &mut new) {
+        0 if reading == Reading::Strict && refuses(channels, block) => refused(STEP_INDEX),
         0 if changed == 0 => format!("same\n{}\n", hex(&new)),
         0 => {
             let mut after = vec![0; before.len()];

@@ -1,9 +1,10 @@
-//! The records that the proved program `repack` reads, and what it has to print, by the oracle.
+//! The records that the proved programs `repack` and `repack_lenient` read, and what each has to print, by the
+//! oracle.
 //!
-//!     records cases FOLDER   writes the program cases into a new folder, tests/cases/repack
-//!     records try            starts the program on records at random, and on damaged ones. The words to
+//!     records cases FOLDER   writes the cases of each program into a new folder of its name, in FOLDER
+//!     records try PROGRAM    starts a program on records at random, and on damaged ones. The words to
 //!                            start it with come from standard input, one to a line, as
-//!                            `tools/run -n repack` prints them
+//!                            `tools/run -n PROGRAM` prints them
 
 mod answer;
 mod cases;
@@ -16,17 +17,21 @@ mod oracle;
 mod parallel;
 #[path = "../../differential/src/signal.rs"]
 mod signal;
+#[path = "../../differential/src/ms/strict.rs"]
+mod strict;
 mod trial;
 
+use answer::Reading;
 use std::process::ExitCode;
 
 fn main() -> ExitCode {
     let words: Vec<String> = std::env::args().skip(1).collect();
     let done = match words.iter().map(String::as_str).collect::<Vec<_>>()[..] {
         ["cases", folder] => cases::write(folder.as_ref()),
-        ["try"] => trial::run(),
+        ["try", "repack"] => trial::run(Reading::Strict),
+        ["try", "repack_lenient"] => trial::run(Reading::Lenient),
         _ => {
-            eprintln!("usage: records cases FOLDER, or records try");
+            eprintln!("usage: records cases FOLDER, or records try repack|repack_lenient");
             return ExitCode::from(2);
         }
     };

@@ -1,6 +1,6 @@
-//! The program on records at random: what it prints is compared, whole.
+//! A program on records at random: what it prints is compared, whole.
 
-use crate::answer::answer;
+use crate::answer::{answer, Reading};
 use crate::damage::Records;
 use crate::parallel::each;
 use std::collections::BTreeMap;
@@ -16,14 +16,14 @@ const RECORDS: usize = 3_000;
 /// So many differences are printed. All are counted.
 const PRINTED: usize = 10;
 
-pub fn run() -> Result<(), Box<dyn Error>> {
+pub fn run(reading: Reading) -> Result<(), Box<dyn Error>> {
     let words = io::read_to_string(io::stdin())?;
     let words: Vec<&str> = words.lines().collect();
     let (program, words) = words.split_first().ok_or("no words to start it with")?;
     let mut source = Records::new(SEED);
     let mut pair = || {
         let record = source.next();
-        let answer = answer(&record);
+        let answer = answer(reading, &record);
         (record, answer)
     };
     let pairs: Vec<(Vec<u8>, String)> = (0..RECORDS).map(|_| pair()).collect();

@@ -25,10 +25,6 @@ same_mono_clipped_below 1 0380140008 same
 bytes_fourth_byte 1 34120501 changed 0 first - peak 0
 bytes_fourth_byte_255 1 000000FF17 changed 0 first - peak 0
 bytes_header_and_nibble 1 0000000708 changed 0 first - peak 0
-bytes_index_89 1 00005900 changed 0 first - peak 0
-bytes_index_200 1 0000C800 changed 0 first - peak 0
-bytes_index_128_with_nibbles 1 000080000891 changed 0 first - peak 0
-bytes_index_255_with_nibbles 1 0000FF001980 changed 0 first - peak 0
 bytes_nibble_8_at_step_7 1 0000000008 changed 0 first - peak 0
 bytes_nibbles_8_at_step_7 1 000000008888 changed 0 first - peak 0
 bytes_nibble_8_lowest 1 0080000080 changed 0 first - peak 0
@@ -36,13 +32,10 @@ bytes_negative_nibble_lowest 1 00800000F0 changed 0 first - peak 0
 bytes_positive_nibble_highest 1 FF7F000010 changed 0 first - peak 0
 bytes_stereo_left_fourth 2 0100020304000500 changed 0 first - peak 0
 bytes_stereo_right_fourth 2 0100020004000506 changed 0 first - peak 0
-bytes_stereo_left_index 2 0100590004000500 changed 0 first - peak 0
-bytes_stereo_right_index 2 010002000400FF00 changed 0 first - peak 0
 
 moved_below 1 098000000F changed 1 first 1 peak 1
 moved_behind_lowest 1 008000000F changed 1 first 2 peak 1
 moved_nibble_8_lowest 1 00801E0008 changed 2 first 1 peak 16
-moved_index_200 1 4480C8099E changed 1 first 2 peak 3724
 moved_first_10 1 F67F00000000000070 changed 1 first 10 peak 1
 # a left and a right, of which one clips or both
 moved_stereo_left 2 F67F00003412050007000000319A0240 changed 1 first 2 peak 1
@@ -59,12 +52,36 @@ peak_32767 1 FF7F2B007F3A7FFF changed 6 first 3 peak 32767
 peak_of_32768 1 44802D00FFFF95F7 changed 6 first 2 peak 32768
 peak_of_52113 1 00803E00FF77 changed 4 first 1 peak 52113
 peak_of_65494 1 008000007FFFFFFFFF776CE3 changed 11 first 2 peak 65494
+
+# the largest index that strict reading takes; and one channel, in which the seventh byte is no index
+index_88 1 0000580019 same
+index_88_stereo 2 0000580000005800 same
+index_mono_seventh_byte_255 1 000000000000FF same
+";
+
+/// The same, with an index above 88.
+const HIGH: &str = "\
+bytes_index_89 1 00005900 changed 0 first - peak 0
+bytes_index_200 1 0000C800 changed 0 first - peak 0
+bytes_index_128_with_nibbles 1 000080000891 changed 0 first - peak 0
+bytes_index_255_with_nibbles 1 0000FF001980 changed 0 first - peak 0
+bytes_stereo_left_index 2 0100590004000500 changed 0 first - peak 0
+bytes_stereo_right_index 2 010002000400FF00 changed 0 first - peak 0
+moved_index_200 1 4480C8099E changed 1 first 2 peak 3724
+index_89_left 2 0000590000005800 changed 0 first - peak 0
+index_89_right 2 0000580000005900 changed 0 first - peak 0
+index_255 1 0000FF00 changed 0 first - peak 0
 ";
 
 pub fn all() -> Vec<Case> {
-    let lines = BLOCKS.lines();
-    let cases = lines.filter(|line| !line.is_empty() && !line.starts_with('#'));
-    cases.map(case).collect()
+    let high = cases(HIGH).map(Case::high);
+    cases(BLOCKS).chain(high).collect()
+}
+
+fn cases(text: &'static str) -> impl Iterator<Item = Case> {
+    let lines = text.lines();
+    let lines = lines.filter(|line| !line.is_empty() && !line.starts_with('#'));
+    lines.map(case)
 }
 
 fn case(line: &'static str) -> Case {

@@ -6,7 +6,8 @@ use crate::oracle::{encode, fitting};
 use crate::signal::{noise, speech, Random};
 
 pub fn all() -> Vec<Case> {
-    [same(), one(), two()].into_iter().flatten().collect()
+    let cases = [same(), one(), two(), high()];
+    cases.into_iter().flatten().collect()
 }
 
 fn same() -> Vec<Case> {
@@ -21,7 +22,6 @@ fn same() -> Vec<Case> {
     ]
 }
 
-/// One channel. The random blocks are those that gave a number worth printing.
 fn one() -> Vec<Case> {
     let of = |name, block: Vec<u8>, loss| Case::new(name, record(1, &block), changed(loss));
     let clipped = "changed 0 first - peak 0";
@@ -29,12 +29,7 @@ fn one() -> Vec<Case> {
         of("moved_first_100", late(50), [1, 100, 1]),
         of("moved_first_1000", late(500), [1, 1_000, 1]),
         of("moved_last_of_largest", late(4_092), [1, 8_184, 1]),
-        of("moved_count_10", random(286, 9), [10, 1, 2_910]),
-        of("moved_count_100", random(74, 67), [100, 2, 18_303]),
-        of("moved_count_1000", random(5, 733), [1_000, 2, 42_333]),
-        of("moved_4095", random(2, 4_095), [5_411, 1, 37_747]),
-        of("moved_largest", random(1, 4_096), [5_403, 2, 39_900]),
-        Case::new("bytes_largest_clipped", record(1, &[0x77; 4_096]), clipped),
+        Case::new("bytes_largest_clipped", record(1, &[0x77; 4_096]), clipped).high(),
     ]
 }
 
@@ -42,10 +37,35 @@ fn two() -> Vec<Case> {
     let of = |name, block: Vec<u8>, loss| Case::new(name, record(2, &block), changed(loss));
     vec![
         of("moved_stereo_left_of_speech", highest(), [319, 114, 949]),
-        of("moved_stereo_4088", random(4, 4_088), [5_319, 6, 40_423]),
-        of("moved_stereo_largest", random(3, 4_096), [5_369, 9, 45_650]),
         of("moved_stereo_last_of_largest", right(), [1, 8_177, 1]),
     ]
+}
+
+/// Random blocks that gave a number worth printing. All of them have an index above 88, so each comes twice:
+/// as it is, and with 88 there, which moves the same samples.
+fn high() -> Vec<Case> {
+    let of = |name: &str, channels, block: Vec<u8>, loss| {
+        let lowered = record(channels, &lowered(channels, &block));
+        [
+            Case::new(name, record(channels, &block), changed(loss)).high(),
+            Case::new(format!("{name}_lowered"), lowered, changed(loss)),
+        ]
+    };
+    let cases = [
+        of("moved_count_10", 1, random(286, 9), [10, 1, 2_910]),
+        of("moved_count_100", 1, random(74, 67), [100, 2, 18_303]),
+        of("moved_count_1000", 1, random(5, 733), [1_000, 2, 42_333]),
+        of("moved_4095", 1, random(2, 4_095), [5_411, 1, 37_747]),
+        of("moved_largest", 1, random(1, 4_096), [5_403, 2, 39_900]),
+        of("moved_stereo_4088", 2, random(4, 4_088), [5_319, 6, 40_423]),
+        of(
+            "moved_stereo_largest",
+            2,
+            random(3, 4_096),
+            [5_369, 9, 45_650],
+        ),
+    ];
+    cases.into_iter().flatten().collect()
 }
 
 fn changed([count, first, peak]: [u16; 3]) -> String {
@@ -80,6 +100,15 @@ fn encoded(channels: u8, of: fn(u64, usize) -> Vec<i16>, index: u8, len: usize) 
     let mut block = vec![0; len];
     let number = encode(channels, &samples, &mut [(0, index); 2], &mut block);
     assert_eq!(number, 0, "a block of {len} bytes is taken");
+    block
+}
+
+/// With no index above 88.
+fn lowered(channels: u8, block: &[u8]) -> Vec<u8> {
+    let mut block = block.to_vec();
+    for header in block.chunks_exact_mut(4).take(channels.into()) {
+        header[2] = header[2].min(88);
+    }
     block
 }
 

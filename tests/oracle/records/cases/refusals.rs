@@ -1,4 +1,5 @@
-//! Records that are refused: malformed ones by 4, then channel numbers by 1, then lengths by 2.
+//! Records that are refused by both programs: malformed ones by 4, then channel numbers by 1, then lengths
+//! by 2.
 
 use super::Case;
 use crate::damage::record;
@@ -8,7 +9,7 @@ const EXAMPLE: [u8; 9] = [0, 7, 1, 1, 0xf6, 0x7f, 0, 0, 7];
 
 pub fn all() -> Vec<Case> {
     let malformed = [short(), lengths(), extra(), versions()];
-    let others = [channels(), blocks()];
+    let others = [channels(), blocks(), indices()];
     malformed.into_iter().chain(others).flatten().collect()
 }
 
@@ -133,5 +134,17 @@ fn blocks() -> Vec<Case> {
         case("length_stereo_17", 2, 17),
         case("length_stereo_4092", 2, 4_092),
         case("length_stereo_4095", 2, 4_095),
+    ]
+}
+
+/// With an index above 88 besides, at which strict reading looks last.
+fn indices() -> Vec<Case> {
+    let block = [0, 0, 200, 0, 0, 0, 200, 0, 0, 0, 200, 0];
+    let mut version_2 = record(1, &block);
+    version_2[2] = 2;
+    vec![
+        malformed("malformed_version_2_index_200", &version_2),
+        Case::new("channels_3_index_200", record(3, &block), "refused 1"),
+        Case::new("length_stereo_12_index_200", record(2, &block), "refused 2"),
     ]
 }
