@@ -23,6 +23,7 @@ const _: fn(&[i16; 64], &mut AdpcmImaState, &mut [u8; 34]) = encode_adpcm_ima_im
 const _: fn(&[u8], bool, &mut [i16]) -> Result<(), Error> = decode_adpcm_ima_ms;
 const _: fn(&[i16], &mut [AdpcmImaState], &mut [u8]) -> Result<(), Error> = encode_adpcm_ima_ms;
 const _: fn() -> AdpcmImaState = AdpcmImaState::new;
+const _: [Error; 2] = [Error::InvalidChannels, Error::InvalidBufferSize];
 const _: fn() = state::<AdpcmImaState>;
 const _: fn() = error::<Error>;
 
@@ -110,7 +111,8 @@ fn decode_ima4(random: &mut Random) -> Outcome {
     };
     let ((), all) = lent(64, decode);
     let left = [plain(&all), plain(&block), both(&states)].concat();
-    ("decode_adpcm_ima_ima4", told(content, Ok(())), given, left)
+    let answer = told(content, Ok::<_, Error>(()));
+    ("decode_adpcm_ima_ima4", answer, given, left)
 }
 
 fn encode_ima4(random: &mut Random) -> Outcome {
@@ -125,22 +127,51 @@ fn encode_ima4(random: &mut Random) -> Outcome {
     ("encode_adpcm_ima_ima4", done(), given, left)
 }
 
-/// A block at random, or what the encoder makes of samples, if it takes them.
 fn decode_ms(random: &mut Random) -> Outcome {
-    let (block_len, samples_len) = lengths(random);
-    let channels = pick(random, &[1, 2]);
-    let mut block = bytes(random, block_len);
-    let content = pick(random, &["random", "encoded"]);
-    if content == "encoded" {
-        let (samples, mut states) = (samples(random, samples_len), states(random, channels));
-        encode_adpcm_ima_ms(&samples, &mut states, &mut block).ok();
+    Block::new(random).decoded("decode_adpcm_ima_ms", decode_adpcm_ima_ms)
+}
+
+/// An MS block, and how many samples there is room for.
+pub struct Block {
+    pub channels: usize,
+    pub bytes: Vec<u8>,
+    content: &'static str,
+    samples_len: usize,
+}
+
+impl Block {
+    /// A block at random, or what the encoder makes of samples, if it takes them.
+    pub fn new(random: &mut Random) -> Block {
+        let (block_len, samples_len) = lengths(random);
+        let channels = pick(random, &[1, 2]);
+        let mut bytes = ms_bytes(random, channels, block_len);
+        let content = pick(random, &["random", "encoded"]);
+        if content == "encoded" {
+            let (samples, mut states) = (samples(random, samples_len), states(random, channels));
+            encode_adpcm_ima_ms(&samples, &mut states, &mut bytes).ok();
+        }
+        Block {
+            channels,
+            bytes,
+            content,
+            samples_len,
+        }
     }
-    let decode = |out: &mut [_]| decode_adpcm_ima_ms(&block, channels == 2, out);
-    let (answer, all) = lent(samples_len, decode);
-    let answer = told(&format!("{} {content}", sized(channels, block_len)), answer);
-    let given = format!("{block_len} bytes, {samples_len} samples");
-    let left = [plain(&all), plain(&block)].concat();
-    ("decode_adpcm_ima_ms", answer, given, left)
+
+    /// What a call that decodes it leaves.
+    pub fn decoded<E: Debug>(
+        &self,
+        call: Name,
+        decode: impl FnOnce(&[u8], bool, &mut [i16]) -> Result<(), E>,
+    ) -> Outcome {
+        let (bytes, samples_len) = (&self.bytes, self.samples_len);
+        let decode = |out: &mut [_]| decode(bytes, self.channels == 2, out);
+        let (answer, all) = lent(samples_len, decode);
+        let of = format!("{} {}", sized(self.channels, bytes.len()), self.content);
+        let given = format!("{} bytes, {samples_len} samples", bytes.len());
+        let left = [plain(&all), plain(bytes)].concat();
+        (call, told(&of, answer), given, left)
+    }
 }
 
 /// Most often one state or two, and numbers of them that look so to whoever counts with 8 bits.
@@ -159,15 +190,13 @@ fn encode_ms(random: &mut Random) -> Outcome {
 
 /// What a call answers that refuses nothing.
 fn done() -> String {
-    told("any", Ok(()))
+    told("any", Ok::<_, Error>(()))
 }
 
-/// What the call was about, and how it was answered: by done, or by any error that there is.
-fn told(of: &str, answer: Result<(), Error>) -> String {
-    let answer = answer.map_err(|error| match error {
-        Error::InvalidChannels => format!("{error:?} 1"),
-        Error::InvalidBufferSize => format!("{error:?} 2"),
-    });
+/// What the call was about, and how it was answered: by done, or by the name of an error. One of the crates
+/// has an error that the other has not, so no `match` can have them all.
+fn told(of: &str, answer: Result<(), impl Debug>) -> String {
+    let answer = answer.map_err(|error| format!("{error:?}"));
     let answer = answer.err().unwrap_or("done".into());
     format!("{of}: {answer}")
 }
@@ -187,10 +216,11 @@ pub fn lent<T: From<u8>, A>(len: usize, call: impl FnOnce(&mut [T]) -> A) -> (A,
     (call(&mut all[ROOM..ROOM + len]), all)
 }
 
-/// Lengths of an MS block about every boundary, the long ones seldom; and numbers of samples, that fit
-/// one channel or two more often than not.
+/// Lengths of an MS block about every boundary, the long ones seldom, and of these most often the longest of
+/// two channels and of one; and numbers of samples, that fit one channel or two more often than not.
 pub fn lengths(random: &mut Random) -> (usize, usize) {
-    let long = 65_527 + below(random, 10);
+    let about = 65_527 + below(random, 10);
+    let long = pick(random, &[65_528, 65_528, 65_535, about]);
     let short = pick(random, &[0, 3, 4, 5, 7, 8, 12, 16, 24, 300]);
     let block = if below(random, 16) == 0 { long } else { short };
     let fitting = (2 * block).saturating_sub(pick(random, &[7, 14]));
@@ -226,6 +256,15 @@ fn states(random: &mut Random, len: usize) -> Vec<AdpcmImaState> {
 pub fn index(random: &mut Random) -> u8 {
     let most = pick(random, &[89, 256]);
     below(random, most) as u8
+}
+
+/// Bytes at random, with such an index in the header of each channel.
+pub fn ms_bytes(random: &mut Random, channels: usize, len: usize) -> Vec<u8> {
+    let mut bytes = bytes(random, len);
+    for header in bytes.chunks_exact_mut(4).take(channels) {
+        header[2] = index(random);
+    }
+    bytes
 }
 
 pub fn bytes(random: &mut Random, len: usize) -> Vec<u8> {

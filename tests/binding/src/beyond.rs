@@ -1,30 +1,42 @@
 //! The calls that the binding adds, but for those of an index (seek.rs). A run is held to the Rust's call
-//! for one block, with the state handed on; repacking to its decoder and then its encoder; the loss report
-//! to a plain loop. What is refused leaves all as it was.
+//! for one block, with the state handed on; lenient decoding to its decoder; repacking to its decoder and
+//! then its encoder, and to the rule of strict reading; the loss report to a plain loop. What is refused
+//! leaves all as it was.
 
-use crate::{oracle, plain};
-use audio_codec_algorithms::{decode_adpcm_ima_ima4, encode_adpcm_ima_ima4, AdpcmImaState};
-use calls_rust::{below, bytes, index, lengths, lent, pick, random, sample, samples};
-use calls_rust::{plain as numbers, signal::Random, sized, Outcome};
+use crate::{oracle, plain, strict};
+use audio_codec_algorithms::{decode_adpcm_ima_ima4, encode_adpcm_ima_ima4};
+use audio_codec_algorithms::{decode_adpcm_ima_ms, AdpcmImaState};
+use calls_rust::{below, bytes, index, lengths, lent, ms_bytes, pick, random, sample, samples};
+use calls_rust::{plain as numbers, signal::Random, sized, Block, Outcome};
 use sprettuhol::{decode_adpcm_ima_ima4_run, encode_adpcm_ima_ima4_run, repack_adpcm_ima_ms};
-use sprettuhol::{loss_report, Loss, Refusal};
+use sprettuhol::{lenient, loss_report, Loss, Refusal};
 
 /// What is expected, and what the binding did.
 pub type Both = (Outcome, Outcome);
 
-pub const CALLS: [fn(u64) -> Both; 4] = [decode_run, encode_run, repack, loss];
+pub const CALLS: [fn(u64) -> Both; 6] = [
+    decode_run,
+    encode_run,
+    decode_lenient,
+    repack,
+    repack_lenient,
+    loss,
+];
 
 /// All answers, after the numbers of blocks, the channel numbers, or what the lengths are.
 pub const RUNS: [(&str, &str); 2] = [
     ("0 | 1 | 2 | 7 | 1024", "done"),
     ("1025 | unfitting", REFUSALS[2]),
 ];
-pub const REPACKINGS: [(&str, &str); 4] = [
+pub const REPACKINGS: [(&str, &str); 5] = [
     ("1 | 1 long | 2 | 2 long", "done, same"),
     ("1 | 1 long | 2 | 2 long", "done, changed"),
     ("1 | 1 long | 2 | 2 long", REFUSALS[1]),
     ("0 | 0 long | 3 | 3 long | 255 | 255 long", REFUSALS[0]),
+    ("1 | 1 long | 2 | 2 long", REFUSALS[4]),
 ];
+/// Lenient reading has all but the last.
+pub const LENIENT: &[(&str, &str)] = REPACKINGS.split_at(4).0;
 pub const LOSSES: [(&str, &str); 3] = [
     ("equal", "done, same"),
     ("equal", "done, moved"),
@@ -32,11 +44,12 @@ pub const LOSSES: [(&str, &str); 3] = [
 ];
 
 /// Each refusal, its number and its text.
-pub const REFUSALS: [&str; 4] = [
+pub const REFUSALS: [&str; 5] = [
     "Channels 1, the channel number is not 1 or 2",
     "Lengths 2, a length is not allowed, or two lengths do not fit each other",
     "Blocks 3, not 34 bytes and 64 samples a block, or over 1,024 blocks",
     "Index 5, not 1 to 64 blocks a state, an unfitting index, or no such block",
+    "StepIndex 8, a header has a step index above 88",
 ];
 
 /// An answer of the binding.
@@ -131,12 +144,38 @@ fn both_runs<T: Copy + From<u8> + Into<i32>>(
     (expected, outcome(&answer, &all, state))
 }
 
-/// A block at random, or what the Rust's encoder makes of samples, if it takes them.
+/// The blocks that the ported decoder is given too.
+fn decode_lenient(seed: u64) -> Both {
+    let block = Block::new(&mut random(seed));
+    let call = "lenient::decode_adpcm_ima_ms";
+    let expected = block.decoded(call, decode_adpcm_ima_ms);
+    (expected, block.decoded(call, lenient::decode_adpcm_ima_ms))
+}
+
+type Repack = fn(u8, &[u8], &mut [u8]) -> Result<bool, Refusal>;
+
 fn repack(seed: u64) -> Both {
+    let call = "repack_adpcm_ima_ms";
+    both_repackings(call, seed, strict::refuses, repack_adpcm_ima_ms)
+}
+
+fn repack_lenient(seed: u64) -> Both {
+    let call = "lenient::repack_adpcm_ima_ms";
+    both_repackings(call, seed, |_, _| false, lenient::repack_adpcm_ima_ms)
+}
+
+/// A block at random, or what the Rust's encoder makes of samples, if it takes them. Where `refuses` says so,
+/// one that the Rust takes is to be refused for its index.
+fn both_repackings(
+    call: &'static str,
+    seed: u64,
+    refuses: fn(u8, &[u8]) -> bool,
+    binding: Repack,
+) -> Both {
     let random = &mut random(seed);
     let (block_len, samples_len) = lengths(random);
     let channels = pick(random, &[0, 1, 1, 1, 2, 2, 2, 3, 255]);
-    let mut block = bytes(random, block_len);
+    let mut block = ms_bytes(random, channels.into(), block_len);
     if pick(random, &[true, false]) {
         let mut states = [(0, index(random)), (0, index(random))];
         let samples = samples(random, samples_len);
@@ -149,16 +188,17 @@ fn repack(seed: u64) -> Both {
         let answer = format!("{}: {answer}", sized(channels.into(), block_len));
         let given = format!("{block_len} bytes to {len}");
         let left = [numbers(&all), numbers(&block)].concat();
-        ("repack_adpcm_ima_ms", answer, given, left)
+        (call, answer, given, left)
     };
 
     let mut changed = 0;
     let by_rust = |out: &mut [_]| oracle::repack(&mut vec![], channels, &block, &mut changed, out);
     let expected = match lent(len, by_rust) {
+        (0, _) if refuses(channels, &block) => outcome(REFUSALS[4], lent(len, |_| ()).1),
         (0, all) => outcome(says(changed == 1), all),
         (number, all) => outcome(REFUSALS[usize::from(number) - 1], all),
     };
-    let (answer, all) = lent(len, |out| repack_adpcm_ima_ms(channels, &block, out));
+    let (answer, all) = lent(len, |out| binding(channels, &block, out));
     (expected, outcome(&told(answer.map(says)), all))
 }
 

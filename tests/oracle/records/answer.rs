@@ -2,7 +2,7 @@
 
 use crate::loss::{loss, NONE};
 use crate::oracle::{decode, repack};
-use crate::strict::{refuses, STEP_INDEX};
+use crate::strict::refuses;
 
 /// What a program makes of an index above 88.
 #[derive(Clone, Copy, PartialEq)]
@@ -20,7 +20,7 @@ pub fn answer(reading: Reading, input: &[u8]) -> String {
     let (mut before, mut changed) = (Vec::new(), 0);
     let mut new = vec![0; block.len()];
     match repack(&mut before, channels, block, &mut changed, &mut new) {
-        0 if reading == Reading::Strict && refuses(channels, block) => refused(STEP_INDEX),
+        0 if reading == Reading::Strict && refuses(channels, block) => refused(8),
         0 if changed == 0 => format!("same\n{}\n", hex(&new)),
         0 => {
             let mut after = vec![0; before.len()];

@@ -5,13 +5,15 @@ use super::block::oracle::{self, fitting};
 use super::block::ours;
 use super::both::Decode;
 use super::lengths::{self, LONGEST};
-use super::strict::{refuses, STEP_INDEX};
+use super::strict::refuses;
 use crate::headers::{bodies, window};
 use crate::outcome::Outcome;
 use crate::parallel::each;
 use crate::report::Report;
 use crate::runs::random;
 
+/// What a call returns that refuses an index.
+pub const REFUSED: u8 = 8;
 /// A channel number, and the length of a block.
 const SIZES: [(u8, usize); 8] = [
     (1, 4),
@@ -52,7 +54,7 @@ fn decode(report: &Report, channels: u8, block: &[u8], len: usize) {
     by(ours::decode_lenient).compare(report, ("lenient", input), &oracle);
     let refused = oracle.is_done() && refuses(channels, block);
     let strict = if refused {
-        by(|_, _, _| STEP_INDEX)
+        by(|_, _, _| REFUSED)
     } else {
         oracle
     };

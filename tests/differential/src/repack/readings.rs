@@ -3,8 +3,8 @@
 use super::both::{oracle, Repack, ROOM};
 use super::lengths::lengths;
 use crate::ms::block::ours;
-use crate::ms::readings::{each_block, each_length, head};
-use crate::ms::strict::{refuses, STEP_INDEX};
+use crate::ms::readings::{each_block, each_length, head, REFUSED};
+use crate::ms::strict::refuses;
 use crate::outcome::Outcome;
 use crate::report::Report;
 
@@ -36,7 +36,7 @@ fn repack(report: &Report, channels: u8, block: &[u8], len: usize) {
     by(ours::repack_lenient).compare(report, ("lenient", input), &oracle);
     let refused = oracle.is_done() && refuses(channels, block);
     let strict = if refused {
-        by(|_, _, _, _| STEP_INDEX)
+        by(|_, _, _, _| REFUSED)
     } else {
         oracle
     };
