@@ -18,6 +18,8 @@ mod growth;
 mod ima4;
 mod loss;
 mod ms;
+// strict reading is timed, as callers get it; lenient reading is not
+#[allow(dead_code)]
 #[path = "../../tests/differential/src/ms/block.rs"]
 mod ms_block;
 #[path = "../../tests/differential/src/nibble.rs"]

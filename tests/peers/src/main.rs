@@ -2,7 +2,7 @@
 //! that differs from ours, or one of times. tools/peers starts it, and finds the software.
 
 mod codec;
-// no other software has a seek index
+// no other software has a seek index, and blocks are read leniently here
 #[allow(dead_code)]
 #[path = "../../../bindings/rust/src/ffi.rs"]
 mod ffi;

@@ -1,4 +1,5 @@
-//! The proved library, on whole streams.
+//! The proved library, on whole streams. An index above 88 in an MS block is one of the things to compare, so
+//! it is read as 88, and not refused.
 
 use crate::codec::{Codec, Coded};
 use crate::ffi;
@@ -36,7 +37,7 @@ pub fn decode_into(codec: Codec, coded: &Coded, samples: &mut [i16]) {
         done(match codec {
             Codec::Ulaw => law(bytes, samples, ffi::decode_ulaw),
             Codec::Alaw => law(bytes, samples, ffi::decode_alaw),
-            Codec::Ms(channels) => ffi::decode_ms(channels, bytes, samples),
+            Codec::Ms(channels) => ffi::decode_ms_lenient(channels, bytes, samples),
             Codec::Ima4 => ffi::decode_ima4(bytes, &mut predictor, &mut index, samples),
         });
     }

@@ -208,7 +208,12 @@ fn repack(codec: Codec, name: &str, theirs: &Coded) -> Vec<Row> {
     let (mut moved, mut peak) = (0, 0);
     for bytes in theirs.bytes.chunks(block) {
         let (mut changed, mut out) = (0, vec![0; block]);
-        ours::done(ffi::repack_ms(channels, bytes, &mut changed, &mut out));
+        ours::done(ffi::repack_ms_lenient(
+            channels,
+            bytes,
+            &mut changed,
+            &mut out,
+        ));
         changes.push(changed);
         found.push(unwritten(channels.into(), bytes));
         let both = [bytes.to_vec(), out].map(|bytes| Coded { bytes, block });
