@@ -44,8 +44,8 @@ pub fn reports(progress: bool) -> [Report; 2] {
     [readings, refusals]
 }
 
-/// Lenient reading is held to the oracle. So is strict reading, but where the rule refuses what the oracle
-/// takes.
+/// Lenient reading is held to the oracle. So is strict reading, unless the rule refuses what the oracle
+/// takes: then it has to refuse it, and to write nothing.
 fn decode(report: &Report, channels: u8, block: &[u8], len: usize) {
     let before = block.to_vec();
     let by = |decode: Decode| Outcome::of(len, (), |_, samples| decode(channels, block, samples));

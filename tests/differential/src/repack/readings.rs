@@ -23,7 +23,7 @@ pub fn reports(progress: bool) -> [Report; 2] {
     [readings, refusals]
 }
 
-/// Each reading is held to what it is held to in decoding.
+/// Lenient reading is held to the oracle, and strict reading to the oracle and the rule, as in decoding.
 fn repack(report: &Report, channels: u8, block: &[u8], len: usize) {
     let before = block.to_vec();
     let by = |repack: Repack| {
