@@ -38,7 +38,7 @@ use crate::{ffi, AdpcmImaState, Error};
 /// assert!(matches!(refused, Err(Error::InvalidStepIndex)));
 /// assert_eq!(samples, [0, 4095, 7819]);
 ///
-/// // the seventh byte is the right channel's index, and two nibbles of one channel
+/// // of two channels the seventh byte is the right one's index, of one channel it is two nibbles
 /// let block = [0, 0, 0, 0, 0, 0, 0xff, 0];
 /// let refused = decode_adpcm_ima_ms(&block, true, &mut [0; 2]);
 /// assert!(matches!(refused, Err(Error::InvalidStepIndex)));
