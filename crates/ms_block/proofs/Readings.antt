@@ -1,6 +1,6 @@
 -- What either reading makes of a block: where 8 is given, and where it is not. Assumes nothing.
-use mathlib.Core.Path.{_≡_, refl, sym, _∙_}
-use mathlib.Core.Bool.{true, false, _&&_, and-eq-true-iff}
+use mathlib.Core.Path.{_≡_, refl, sym}
+use mathlib.Core.Bool.{true, false, and-eq-true-iff}
 use mathlib.Core.List.{List}
 use Prim.Native.Nat.{ℕ, zero, suc, _<_, _≤_}
 use native.Mathlib.Omega.{arith}
@@ -57,7 +57,7 @@ module _ (c : ℕ) (block : List ℕ) where
   not-refused Strict number t = cases (eqb number 0) (λ z. eqb-true number 0 z) (λ z. rw z at t)
   not-refused Lenient number t = t
 
-  -- and a call comes to the same by either reading then.
+  -- and what it makes of a call is then what lenient reading makes of it.
   pub read-alike : {Back Buffer : Type 0} (reading : Reading) (number : ℕ) (made given : Back × Buffer) → readBy reading c block number ≡ 0
-      → outcomeBy number made given ≡ outcomeBy (readBy reading c block number) made given
+      → outcomeBy (readBy reading c block number) made given ≡ outcomeBy (readBy Lenient c block number) made given
   read-alike reading number made given t = rw (t, not-refused reading number t) refl

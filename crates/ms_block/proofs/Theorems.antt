@@ -12,11 +12,11 @@ use Rattle.num.specs.Outcome.{outcome}
 use Rattle.ima_nibble.specs.Step.{State, state, sixteen}
 use Rattle.ima_nibble.specs.Series.{Within, encoded}
 use Rattle.ms_block.specs.declared.Reading.{Reading}
-use Rattle.ms_block.specs.declared.Reading.the-variants.{Strict}
+use Rattle.ms_block.specs.declared.Reading.the-variants.{Strict, Lenient}
 use Rattle.ms_block.specs.Readings.{headerIndex, soundHeaders, readBy}
 use Rattle.ms_block.specs.Weave.{strand, woven}
 use Rattle.ms_block.proofs.OwnBytes.{index-is}
-use Rattle.ms_block.proofs.Readings.{sound-if, always-8}
+use Rattle.ms_block.proofs.Readings.{sound-if, always-8, read-alike}
 use Rattle.ms_block.proofs.Sizes.{Shape, shape}
 use Rattle.ms_block.proofs.Weave.{woven-same}
 use Rattle.ms_block.specs.Block.{decodedChannel, encodedChannel, bytesIn, samplesIn, decodedMsBlock, stateIn, begunIn, begun, statesFrom, encodedMsBlock, heard}
@@ -44,6 +44,15 @@ own-samples-alone c n samples others states starts taken long e h same index =
     channel-begun samples is e h states
     ∙ ap₂ (λ (xs : List ℤ) (i : ℕ). encodedChannel (state (getD xs 0 (pos 0)) i) xs .written) same index
     ∙ sym (channel-begun others is′ e h starts)
+
+-- ---- either reading
+
+-- What a reading accepts, it decodes as lenient reading does.
+pub decodes-alike : (reading : Reading) (c : ℕ) (bytes : List ℕ) (out : List ℤ) → readBy reading c bytes (msRefusal c (length bytes) (length out)) ≡ 0
+    → decodeMs reading c bytes out ≡ decodeMs Lenient c bytes out
+unfolding decodeMs
+decodes-alike reading c bytes out accepted =
+    read-alike c bytes reading (msRefusal c (length bytes) (length out)) (tt, decodedMsBlock c bytes) (tt, out) accepted
 
 -- ---- one sample
 

@@ -24,7 +24,7 @@ use Rattle.ms_block.specs.Block.{bytesIn, samplesIn, decodedMsBlock, stateIn, b
 use Rattle.ms_block.specs.Call.{decodeMs}
 use Rattle.ms_block.proofs.Round.{channel-begun, samples-many, samples-within, first-within, in-each}
 use Rattle.ms_block.proofs.OwnBytes.{head-is}
-use Rattle.ms_block.proofs.Readings.{sound-taken, not-refused}
+use Rattle.ms_block.proofs.Readings.{sound-taken, not-refused, read-alike}
 use Rattle.ms_block.proofs.Theorems.{own-samples-alone, written-sound}
 use Rattle.ms_repacked.specs.Repack.{startsOf, repacked, anyChange, repackMs}
 use Rattle.ms_repacked.specs.Written.{Written, SameIndices}
@@ -125,7 +125,7 @@ module _ (reading : Reading) (c : ℕ) (block out : List ℕ) (taken : readBy re
   -- What it accepts, it repacks as lenient reading does.
   pub repacks-alike : once ≡ repackMs Lenient c block out
   unfolding repackMs
-  repacks-alike = rw (taken, lengths) refl
+  repacks-alike = let new = repacked c block in read-alike c block reading (repackRefusal c (length block) (length out)) (anyChange block new, new) (false, out) taken
 
   -- It also says whether any byte changed.
   pub says : (once .back ≡ false) ↔ (once .buffer ≡ block)

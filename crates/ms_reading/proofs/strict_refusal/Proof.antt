@@ -1,5 +1,5 @@
 -- `ms_reading::strict_refusal` meets its contract: where the number is not 0 it stays, and where it is 0 the headers decide. Assumes nothing.
-use mathlib.Core.Path.{_≡_, refl, sym, ap, _∙_}
+use mathlib.Core.Path.{_≡_, sym, ap, _∙_}
 use mathlib.Core.Bool.{Bool, cond}
 use Prim.Native.Nat.{ℕ}
 use native.Mathlib.Omega.{arith}

@@ -5,11 +5,10 @@ use lib.ListN.{length}
 use borrow.Author.Needs.{needs}
 use borrow.Author.Tests.{ne-eqb}
 use Rattle.ms_block.specs.declared.Reading.the-variants.{Strict}
-use Rattle.ms_block.specs.Block.{decodedMsBlock}
 use Rattle.ms_block.specs.Call.{decodeMs}
 use Rattle.ms_block.specs.Readings.{readBy}
 use Rattle.ms_block.specs.Sizes.{msRefusal}
-use Rattle.ms_block.proofs.Readings.{read-alike}
+use Rattle.ms_block.proofs.Theorems.{decodes-alike}
 use Rattle.ms_strict.proofs.decode_adpcm_ima_ms.Statement.{statement}
 use Rattle.ms_strict.proofs.decode_adpcm_ima_ms.Tie as tie
 
@@ -21,15 +20,12 @@ number-is : (c : tie.After-strict-refusal) → let a = start c .args in c .stric
 number-is c = let a = start c .args in c .strict-refusal .ensures ∙ ap (readBy Strict (a .channels) (a .buf .now)) (c .before .refusal .ensures)
 
 returns : tie.Need-returns
-unfolding decodeMs
 returns c =
     let lenient = c .before in
     let test = lenient .before .before in
     let a = start (test .before) .args in
-    let out = a .out-samples .now in
     let accepted = sym (number-is (test .before)) ∙ test .if1 .taken in
-    lenient .decode-adpcm-ima-ms-lenient .ensures
-    ∙ read-alike (a .channels) (a .buf .now) Strict (msRefusal (a .channels) (length (a .buf .now)) (length out)) (tt, decodedMsBlock (a .channels) (a .buf .now)) (tt, out) accepted
+    lenient .decode-adpcm-ima-ms-lenient .ensures ∙ sym (decodes-alike Strict (a .channels) (a .buf .now) (a .out-samples .now) accepted)
 
 returns-2 : tie.Need-returns-2
 unfolding decodeMs

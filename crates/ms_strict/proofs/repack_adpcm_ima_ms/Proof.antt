@@ -1,6 +1,5 @@
 -- `ms_strict::repack_adpcm_ima_ms` meets its contract: a block that strict reading accepts is repacked as lenient reading repacks it. Assumes nothing.
 use mathlib.Core.Path.{_≡_, refl, sym, ap, _∙_}
-use mathlib.Core.Bool.{false}
 use native.Mathlib.Omega.{arith}
 use lib.ListN.{length}
 use borrow.Author.Needs.{needs}
@@ -8,8 +7,8 @@ use borrow.Author.Tests.{ne-eqb}
 use Rattle.ms_block.specs.declared.Reading.the-variants.{Strict}
 use Rattle.ms_block.specs.Readings.{readBy}
 use Rattle.ms_block.specs.Sizes.{repackRefusal}
-use Rattle.ms_block.proofs.Readings.{read-alike}
-use Rattle.ms_repacked.specs.Repack.{repacked, anyChange, repackMs}
+use Rattle.ms_repacked.specs.Repack.{repackMs}
+use Rattle.ms_repacked.proofs.Theorems.{repacks-alike}
 use Rattle.ms_strict.proofs.repack_adpcm_ima_ms.Statement.{statement}
 use Rattle.ms_strict.proofs.repack_adpcm_ima_ms.Tie as tie
 
@@ -21,16 +20,12 @@ number-is : (c : tie.After-strict-refusal) → let a = start c .args in c .stric
 number-is c = let a = start c .args in c .strict-refusal .ensures ∙ ap (readBy Strict (a .channels) (a .block .now)) (c .before .repack-refusal .ensures)
 
 returns : tie.Need-returns
-unfolding repackMs
 returns c =
     let lenient = c .before .before in
     let test = lenient .before .before in
     let a = start (test .before) .args in
-    let block = a .block .now in
-    let new = repacked (a .channels) block in
     let accepted = sym (number-is (test .before)) ∙ test .if1 .taken in
-    lenient .repack-adpcm-ima-ms-lenient .ensures
-    ∙ read-alike (a .channels) block Strict (repackRefusal (a .channels) (length block) (length (a .out .now))) (anyChange block new, new) (false, a .out .now) accepted
+    lenient .repack-adpcm-ima-ms-lenient .ensures ∙ sym (repacks-alike Strict (a .channels) (a .block .now) (a .out .now) accepted)
 
 returns-2 : tie.Need-returns-2
 unfolding repackMs
