@@ -1,4 +1,4 @@
-// Which step indices strict reading takes: those of the channels used, none of them above 88. The calls that read strictly ask here first.
+// Which step indices strict reading takes: 0 to 88, in the header of every channel used. The calls that read strictly ask here first.
 ghost use mathlib.Core.Path.{_≡_};
 ghost use lib.ListN.{getD};
 ghost use Rattle.ms_block.specs.declared.Reading.the-variants.{Strict};

@@ -10,6 +10,7 @@ use Rattle.ms_repacked.specs.Repack.{repackMs}
 abbrev pub numberOf : Bool → ℕ
 numberOf changed = cond changed 1 0
 
+-- What is stored of it: that number where the call is done, and where it is refused the one that was there.
 abbrev pub toldChange : ℕ → Bool → ℕ → Outcome ℕ Unit
 toldChange refusal changed given = outcomeBy refusal (numberOf changed, tt) (given, tt)
 
