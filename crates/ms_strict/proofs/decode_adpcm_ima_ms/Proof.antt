@@ -17,7 +17,10 @@ abbrev start : tie.After-strict-refusal → tie.Start
 start c = c .before .before .before
 
 number-is : (c : tie.After-strict-refusal) → let a = start c .args in c .strict-refusal .result ≡ readBy Strict (a .channels) (a .buf .now) (msRefusal (a .channels) (length (a .buf .now)) (length (a .out-samples .now)))
-number-is c = let a = start c .args in c .strict-refusal .ensures ∙ ap (readBy Strict (a .channels) (a .buf .now)) (c .before .refusal .ensures)
+number-is c =
+    let a = start c .args in
+    let asked : c .strict-refusal .result ≡ readBy Strict (a .channels) (a .buf .now) (c .before .refusal .result) = c .strict-refusal .ensures in
+    asked ∙ ap (readBy Strict (a .channels) (a .buf .now)) (c .before .refusal .ensures)
 
 returns : tie.Need-returns
 returns c =

@@ -17,7 +17,10 @@ abbrev start : tie.After-strict-refusal → tie.Start
 start c = let by-lengths = c .before in by-lengths .before .before .before
 
 number-is : (c : tie.After-strict-refusal) → let a = start c .args in c .strict-refusal .result ≡ readBy Strict (a .channels) (a .block .now) (repackRefusal (a .channels) (length (a .block .now)) (length (a .out .now)))
-number-is c = let a = start c .args in c .strict-refusal .ensures ∙ ap (readBy Strict (a .channels) (a .block .now)) (c .before .repack-refusal .ensures)
+number-is c =
+    let a = start c .args in
+    let asked : c .strict-refusal .result ≡ readBy Strict (a .channels) (a .block .now) (c .before .repack-refusal .result) = c .strict-refusal .ensures in
+    asked ∙ ap (readBy Strict (a .channels) (a .block .now)) (c .before .repack-refusal .ensures)
 
 returns : tie.Need-returns
 returns c =
