@@ -93,7 +93,8 @@ fn put_loss(channels: u8, old: &[u8], new: &[u8], out: &mut [u8; ROOM]) -> usize
     put_change(loss_report(&before[..m], &after[..m]), out)
 }
 
-// The samples of a block that repacking has accepted, by whichever reading, at the start of an array.
+// The samples of a block that repacking has accepted, by whichever reading, at the start of an array. There are two a byte, less seven for each
+// channel. So of 4,096 bytes one channel has the most samples, 8,185, and eight channels have no more.
 fn samples_of(channels: u8, block: &[u8]) -> [i16; 8185]
     requires { ⌜ Small channels (now block) ⌝ }
     ensures { λ r. ⌜ (length r ≡ 8185) × (take (samplesOf channels (length (now (block .entry)))) r ≡ decodedMsBlock channels (now (block .entry))) ⌝ }

@@ -27,20 +27,26 @@ passed false b t = absurd (omega (arith, t))
 either : (c k : ℕ) → (eqb c 1 || eqb k 0) ≡ true → (c ≡ 1) ⊎ (k ≡ 0)
 either c k t = cases (eqb c 1) (λ e. inl (eqb-true c 1 e)) (λ e. inr (eqb-true k 0 (rw e at t)))
 
+-- of a length that is taken
+pub lengths : (c n : ℕ) → sized c n ≡ true → (4 * c ≤ n) × (n ≤ 65535) × Even 4 c n
+lengths c n t =
+    let (within, even) = and-eq-true-iff (leb (4 * c) n && leb n 65535) (eqb c 1 || eqb (n % (4 * c)) 0) .0 t in
+    let (enough, short) = and-eq-true-iff (leb (4 * c) n) (leb n 65535) .0 within in
+    (leb-true (4 * c) n enough, leb-true n 65535 short, either c (n % (4 * c)) even)
+
 pub shape : (c n m : ℕ) → msRefusal c n m ≡ 0 → Shape c n m
 unfolding msRefusal
 shape c n m t =
-    let (channels, lengths) = passed (channelled c) (sized c n && eqb m (samplesOf c n)) t in
+    let (channels, fit) = passed (channelled c) (sized c n && eqb m (samplesOf c n)) t in
     let (some, few) = and-eq-true-iff (leb 1 c) (leb c most) .0 channels in
-    let (is, fits) = and-eq-true-iff (sized c n) (eqb m (samplesOf c n)) .0 lengths in
-    let (within, even) = and-eq-true-iff (leb (4 * c) n && leb n 65535) (eqb c 1 || eqb (n % (4 * c)) 0) .0 is in
-    let (enough, short) = and-eq-true-iff (leb (4 * c) n) (leb n 65535) .0 within in
+    let (is, fits) = and-eq-true-iff (sized c n) (eqb m (samplesOf c n)) .0 fit in
+    let (enough, short, even) = lengths c n is in
     record {
       some = leb-true 1 c some;
       few = leb-true c most few;
-      enough = leb-true (4 * c) n enough;
-      short = leb-true n 65535 short;
-      even = either c (n % (4 * c)) even;
+      enough = enough;
+      short = short;
+      even = even;
       fits = eqb-true m (samplesOf c n) fits;
     }
 

@@ -5,8 +5,11 @@ use mathlib.Core.Bool.{true}
 use mathlib.Core.List.{List, [], _∷_}
 use Prim.Native.Nat.{ℕ, _<_, _≤_}
 use native.Mathlib.Omega.{arith}
+use lib.Dec.{eqb}
 use lib.IntN.{ℤ, pos}
 use lib.ListN.{length, getD}
+use borrow.Author.Tests.{eqb-true}
+use borrow.Table.Steps.{cases}
 use Rattle.num.specs.Lists.{from}
 use Rattle.num.specs.Outcome.{outcome}
 use Rattle.ima_nibble.specs.Step.{State, state, sixteen}
@@ -14,11 +17,11 @@ use Rattle.ima_nibble.specs.Series.{Within, encoded}
 use Rattle.ms_block.specs.declared.Reading.{Reading}
 use Rattle.ms_block.specs.declared.Reading.the-variants.{Strict, Lenient}
 use Rattle.ms_block.specs.Readings.{headerIndex, soundHeaders, readBy}
-use Rattle.ms_block.specs.Weave.{strand, woven}
+use Rattle.ms_block.specs.Weave.{strand, woven, AlikeBut}
 use Rattle.ms_block.proofs.OwnBytes.{index-is}
 use Rattle.ms_block.proofs.Readings.{sound-if, always-8, read-alike}
 use Rattle.ms_block.proofs.Sizes.{Shape, shape}
-use Rattle.ms_block.proofs.Weave.{woven-same}
+use Rattle.ms_block.proofs.Weave.{woven-same, others-alike}
 use Rattle.ms_block.specs.Block.{decodedChannel, encodedChannel, bytesIn, samplesIn, decodedMsBlock, stateIn, begunIn, begun, statesFrom, encodedMsBlock, heard}
 use Rattle.ms_block.specs.Call.{decodeMs, encodeMs}
 use Rattle.ms_block.specs.Sizes.{msRefusal, Taken}
@@ -44,6 +47,20 @@ own-samples-alone c n samples others states starts taken long e h same index =
     channel-begun samples is e h states
     ∙ ap₂ (λ (xs : List ℤ) (i : ℕ). encodedChannel (state (getD xs 0 (pos 0)) i) xs .written) same index
     ∙ sym (channel-begun others is′ e h starts)
+
+-- So changing one channel's header and bytes, in lenient reading, never changes another channel's samples. Strict reading would refuse the whole
+-- block for an index above 88.
+pub isolated : (c e : ℕ) (block other : List ℕ) (out : List ℤ) → AlikeBut 4 c 0 e block other → (h : ℕ) → h < c → (h ≡ e → ⊥)
+    → samplesIn c (decodeMs Lenient c other out .buffer) h ≡ samplesIn c (decodeMs Lenient c block out .buffer) h
+unfolding decodeMs
+isolated c e block other out (long, alike) h l apart =
+    let number = msRefusal c (length block) (length out) in
+    cases (eqb number 0)
+    (λ t.
+    let taken : Taken c (length other) (length out) = rw long (eqb-true number 0 t) in
+    let same = others-alike 4 c (omega arith) (omega (arith, l)) 0 e block other (long, alike) h l apart in
+    rw (long, t) (own-bytes-alone c (length out) other block taken (sym long) h l same))
+    (λ t. rw (long, t) refl)
 
 -- ---- either reading
 

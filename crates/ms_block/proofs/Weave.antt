@@ -9,7 +9,7 @@ use lib.ListN.{length, getD}
 use lib.Seq.{ext-getD}
 use Rattle.num.specs.Lists.{from}
 use Rattle.num.proofs.Lists.{length-from, getD-from}
-use Rattle.ms_block.specs.Weave.{place, channelAt, itemAt, strand, woven}
+use Rattle.ms_block.specs.Weave.{place, channelAt, itemAt, strand, woven, AlikeBut}
 
 -- a number by its quotient and its rest
 pub quotient : (m a b : ℕ) → b < m → (m * a + b) / m ≡ a
@@ -62,7 +62,7 @@ module _ (turn c : ℕ) (ht : 0 < turn) (hc : 0 < c) where
 
   -- ---- as many items of each
 
-  rounds : (n : ℕ) → n % (turn * c) ≡ 0 → n ≡ turn * (c * (n / (turn * c)))
+  pub rounds : (n : ℕ) → n % (turn * c) ≡ 0 → n ≡ turn * (c * (n / (turn * c)))
   rounds n h = let e = div-add-mod n (turn * c) in omega (arith, e, h)
 
   share : (n : ℕ) → n % (turn * c) ≡ 0 → n / c ≡ turn * (n / (turn * c))
@@ -131,6 +131,17 @@ module _ (turn c : ℕ) (ht : 0 < turn) (hc : 0 < c) where
     pub strand-at : (xs : List X) (e d : ℕ) → d < length xs / c → getD (strand turn c x xs e) d x ≡ getD xs (at e d) x
     unfolding strand
     strand-at xs e d h = let f : ℕ → X = λ i. getD xs (at e i) x in getD-from f (length xs / c) 0 d x h ∙ ap f (omega arith)
+
+    -- lists that are alike but for one channel's items have the same items of every other
+    pub others-alike : (e : ℕ) (xs ys : List X) → AlikeBut turn c x e xs ys → (h : ℕ) → h < c → (h ≡ e → ⊥) → strand turn c x ys h ≡ strand turn c x xs h
+    others-alike e xs ys (long, alike) h l other =
+        let share : length ys / c ≡ length xs / c = ap (λ (n : ℕ). n / c) long in
+        ext-getD x (strand turn c x ys h) (strand turn c x xs h) (strand-length ys h ∙ share ∙ sym (strand-length xs h))
+        (λ d k.
+        let inside : d < length ys / c = omega (arith, k, strand-length ys h) in
+        strand-at ys h d inside
+        ∙ alike (at h d) (λ s. other (sym (channel-at h d l) ∙ s))
+        ∙ sym (strand-at xs h d (omega (arith, inside, share))))
 
     -- ---- there and back
 

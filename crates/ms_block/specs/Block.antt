@@ -25,7 +25,7 @@ encodedChannel st samples =
     let nibbles = encoded sixteen imaSteps st (drop 1 samples) in
     done (msHeader st ++ packed (nibbles .written)) (nibbles .end)
 
--- ---- All channels: four bytes left, four bytes right, headers included; and interleaved samples
+-- ---- All channels: four bytes of each in turn, headers included; and interleaved samples
 
 abbrev pub bytesIn : ℕ → List ℕ → ℕ → List ℕ
 bytesIn c bytes e = strand 4 c 0 bytes e

@@ -1,29 +1,35 @@
 -- The channel numbers and lengths that an MS call takes. Assumes nothing.
 use mathlib.Core.Path.{_≡_}
 use mathlib.Core.Bool.{Bool, cond, _&&_, _||_}
-use Prim.Native.Nat.{ℕ, _+_, _-_, _*_, _/_, _%_}
+use Prim.Native.Nat.{ℕ, _+_, _-_, _*_, _/_, _%_, _≤_}
 use lib.Dec.{eqb, leb}
 
 -- The most channels that a block has.
 abbrev pub most : ℕ
-most = 2
+most = 8
 
--- The channel number is 1 or 2.
+-- The channel number is 1 to 8.
 abbrev pub channelled : ℕ → Bool
 channelled c = leb 1 c && leb c most
 
--- Block length n: mono 4 to 65,535; stereo 8 to 65,528, divisible by 8.
+-- Block length n: of one channel 4 to 65,535; from two channels up the channel number times four, times one or more, up to 65,535.
 abbrev pub sized : ℕ → ℕ → Bool
 sized c n = leb (4 * c) n && leb n 65535 && (eqb c 1 || eqb (n % (4 * c)) 0)
 
--- Samples: mono 2n-7, stereo 2n-14; and the other way round.
+-- The same from two channels up, by the groups behind the headers.
+pub record Grouped (c n : ℕ) : Type 0 where
+  pub groups : ℕ
+  pub whole : n ≡ c * 4 * (1 + groups)
+  pub short : n ≤ 65535
+
+-- Samples of all channels: two a byte, and one in the four bytes of each header; and the other way round.
 abbrev pub samplesOf : ℕ → ℕ → ℕ
 samplesOf c n = 2 * n - 7 * c
 
 abbrev pub bytesOf : ℕ → ℕ → ℕ
 bytesOf c m = (m + 7 * c) / 2
 
--- 1: channel number not 1 or 2. 2: a length breaks the MS rules, or two lengths do not fit. 1 is tested before 2.
+-- 1: channel number outside 1 to 8. 2: a length breaks the MS rules, or two lengths do not fit. 1 is tested before 2.
 abbrev pub refusedBy : ℕ → Bool → ℕ
 refusedBy c fit = cond (channelled c) (cond fit 0 2) 1
 

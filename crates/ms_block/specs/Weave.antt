@@ -1,4 +1,5 @@
 -- c channels that take turns in one list, `turn` items at a time: the samples of a block one by one, its bytes four by four. Assumes nothing.
+use mathlib.Core.Path.{_≡_}
 use mathlib.Core.List.{List}
 use Prim.Native.Nat.{ℕ, _+_, _*_, _/_, _%_}
 use lib.ListN.{length, getD}
@@ -21,3 +22,7 @@ strand turn c x xs e = from (length xs / c) 0 (λ d. getD xs (place turn c e d) 
 
 unfoldable pub woven : {X : Type 0} → ℕ → ℕ → X → ℕ → (ℕ → List X) → List X
 woven turn c x n strands = from n 0 (λ p. getD (strands (channelAt turn c p)) (itemAt turn c p) x)
+
+-- Two lists that are alike in length, and in all but the items of channel e.
+abbrev pub AlikeBut : {X : Type 0} → ℕ → ℕ → X → ℕ → List X → List X → Type 0
+AlikeBut turn c x e xs ys = (length ys ≡ length xs) × ((p : ℕ) → (channelAt turn c p ≡ e → ⊥) → getD ys p x ≡ getD xs p x)

@@ -12,7 +12,7 @@ ghost use Rattle.ms_block.specs.Header.{headed};
 ghost use Rattle.ms_block.specs.Sizes.{most, sized, samplesOf, msRefusal, repackRefusal};
 
 // The most channels that a block has.
-pub const MOST: usize = 2;
+pub const MOST: usize = 8;
 
 // 0 for done, 1 for a channel number that is not taken, and then 2 for lengths that are not.
 pub fn refusal(channels: usize, bytes: usize, samples: usize) -> u8
