@@ -80,15 +80,15 @@ fn heads(
 fn groups(
     c: usize,
     samples: &[i16],
-    given: [AdpcmImaState; MOST],
+    starts: [AdpcmImaState; MOST],
     out_buf: &mut [u8],
 ) -> [AdpcmImaState; MOST]
-    requires { ⌜ Taken c (length (now «out_buf»)) (length (now samples)) × (take (4 * c) (now «out_buf») ≡ take (4 * c) (blockFrom c (map stateOf given) (now samples))) ⌝ }
-    ensures { λ r. ⌜ (map stateOf r ≡ statesFrom c (map stateOf given) (now (samples .entry))) × (now («out_buf» .exit) ≡ blockFrom c (map stateOf given) (now (samples .entry))) ⌝ }
+    requires { ⌜ Taken c (length (now «out_buf»)) (length (now samples)) × (take (4 * c) (now «out_buf») ≡ take (4 * c) (blockFrom c (map stateOf starts) (now samples))) ⌝ }
+    ensures { λ r. ⌜ (map stateOf r ≡ statesFrom c (map stateOf starts) (now (samples .entry))) × (now («out_buf» .exit) ≡ blockFrom c (map stateOf starts) (now (samples .entry))) ⌝ }
 {
     let steps = IMA_STEP_TABLE;
     let n = out_buf.len();
-    let mut states = given;
+    let mut states = starts;
     let mut at = 4 * c;
     let mut g = 0;
     'block: loop {

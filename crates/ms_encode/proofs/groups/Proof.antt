@@ -70,8 +70,8 @@ block-holds : tie.Need-block-holds Inv-loop2 μ-loop2 Inv-loop μ-loop Inv-block
 block-holds c =
     let a = c .before .args in
     let is = sizes (c .before) in
-    let some : length (a .given) ≡ most = search needs in (
-      first (a .c) (omega (arith, is .some)) (a .samples .now) (map stateOf (a .given)) (a .out-buf .now) (c .before .pre .1),
+    let some : length (a .starts) ≡ most = search needs in (
+      first (a .c) (omega (arith, is .some)) (a .samples .now) (map stateOf (a .starts)) (a .out-buf .now) (c .before .pre .1),
       groups-first (subst (Shape (a .c) (length (a .out-buf .now))) (is .fits) is),
       is .fits,
       refl,
@@ -231,7 +231,7 @@ returns c =
     let loop = c .before .before in
     let a = begin loop .args in
     let inv = loop .loop .inv in
-    let starts = map stateOf (a .given) in
+    let starts = map stateOf (a .starts) in
     let states = map stateOf (loop .loop .states) in
     let is = subst (Shape (a .c) (length (a .out-buf .now))) (sym (inv .2)) (inv .1 .block) in
     let u = inv .0 starts (loop .before .block .inv .0) in
