@@ -38,7 +38,7 @@ static void repack(uint8_t channels, const uint8_t *block, size_t len)
     else if (refusal == SPR_DONE)
         puts("same");
     if (refusal == SPR_REFUSED_CHANNELS)
-        puts("refused: a block has one channel or two");
+        puts("refused: a block has one to eight channels");
     else if (refusal == SPR_REFUSED_LENGTHS)
         puts("refused: no block has that length");
     else if (refusal == SPR_REFUSED_STEP_INDEX)
@@ -56,6 +56,6 @@ int main(void)
     repack(1, plain, sizeof plain);
     repack(1, broken, sizeof broken);
     repack(2, plain, sizeof plain);
-    repack(3, plain, sizeof plain);
+    repack(9, plain, sizeof plain);
     return 0;
 }

@@ -22,7 +22,7 @@
  * What the caller owes, and no library can test:
  *
  * - A pointer x that goes with a length x_len points to at least that many elements. Any other points to
- *   one number; but the two arrays of spr_encode_ms have two elements each, with one channel too.
+ *   one number, or in spr_encode_ms to one array of eight.
  * - Every pointer is aligned for its type.
  * - No pointer is null, not even where the length is 0: the compiler may count on it.
  * - What is behind a pointer that is not to const overlaps with nothing else that is passed, and no other
@@ -34,14 +34,14 @@
 #include <stddef.h>
 #include <stdint.h>
 
-/* The version of this header, 0.4.0: 10,000 for each major number, 100 for each minor one, 1 for each patch. */
-#define SPR_VERSION 400
+/* The version of this header, 0.5.0: 10,000 for each major number, 100 for each minor one, 1 for each patch. */
+#define SPR_VERSION 500
 
 /* What the calls that can refuse return. Each number is given for its cause alone, and always then; the
  * channel number is tested before the lengths, and these before the step indices of a block. An index of a run is
  * tested after the run's bytes and before its samples. No call returns 4, which is the program repack's. */
 #define SPR_DONE 0
-#define SPR_REFUSED_CHANNELS 1   /* MS: the channel number is not 1 or 2 */
+#define SPR_REFUSED_CHANNELS 1   /* MS: the channel number is not 1 to 8 */
 #define SPR_REFUSED_LENGTHS 2    /* MS, loss: a length is not allowed, or two do not fit each other */
 #define SPR_REFUSED_BLOCKS 3     /* ima4: not 34 bytes and 64 samples a block, or over 1,024 blocks */
 #define SPR_REFUSED_INDEX 5      /* ima4 index: not 1 to 64 blocks a state, an unfitting record, or no such block */
@@ -53,16 +53,20 @@
 #define SPR_IMA4_BLOCK_SAMPLES 64
 #define SPR_IMA4_MOST_BLOCKS 1024    /* of a run */
 #define SPR_MS_MOST_BYTES 65535      /* of a block */
+#define SPR_MS_MOST_CHANNELS 8       /* of a block; and so many states the encoder takes */
 #define SPR_LOSS_MOST_SAMPLES 131063 /* of a run; as many as the longest MS block has */
 
-/* How many samples an MS block has, those of both channels together: 2n-7 for one channel and a length n
- * of 4 to 65,535, 2n-14 for two channels and one of 8 to 65,528 that is divisible by 8. It is 0 where the
- * calls refuse the channel number or the length. It is a constant if both arguments are, and evaluates
- * them more than once. */
+/* How many samples an MS block has, those of all channels together. A block of one channel has a length n of 4
+ * to 65,535, and 2n-7 samples. A block of c channels, from two up, has a length of 4c times one or more, up to
+ * 65,535, and 2n-7c samples: one for each channel, and eight for each channel in every 4c bytes behind the
+ * headers. It is 0 where the calls refuse the channel number or the length. It is a constant if both arguments
+ * are, and evaluates them more than once. */
 #define SPR_MS_SAMPLES(channels, block_len)                                                              \
-    ((size_t)(block_len) < 4 * (size_t)(channels) || (size_t)(block_len) / (SPR_MS_MOST_BYTES + 1) != 0  \
+    ((channels) < 1 || (channels) > SPR_MS_MOST_CHANNELS ||                                              \
+             (size_t)(block_len) < 4 * (size_t)(channels) ||                                             \
+             (size_t)(block_len) / (SPR_MS_MOST_BYTES + 1) != 0                                          \
          ? (size_t)0                                                                                     \
-     : (channels) == 1 || ((channels) == 2 && (size_t)(block_len) % 8 == 0)                              \
+     : (channels) == 1 || (size_t)(block_len) % (4 * (size_t)(channels)) == 0                            \
          ? 2 * (size_t)(block_len) - 7 * (size_t)(channels)                                              \
          : (size_t)0)
 
@@ -183,9 +187,10 @@ uint8_t spr_ima4_reindex(const uint8_t *bytes, size_t bytes_len, size_t from, ui
                          size_t record_len);
 
 /* One MS block to samples; SPR_MS_SAMPLES says which lengths there are, and how many samples. For each channel
- * there is a header of four bytes: the predictor, low byte first, the index, and a byte that is ignored. Then
- * come the nibbles, the low half of a byte first; of two channels four bytes left, four bytes right, and so on.
- * Samples of two channels are interleaved, the left one first.
+ * there is a header of four bytes: the predictor, low byte first, the index, and a byte that is ignored. Behind
+ * all headers come the nibbles, four bytes of each channel in turn, the low half of a byte first. Samples are
+ * interleaved: one of each channel in turn. The channels keep their order; which of them belongs to which
+ * loudspeaker is for the file to say that has the block.
  *
  * Reads `block` and writes all of `samples`. Each channel starts from its header, whose predictor is the first
  * sample. No state goes in or comes back: a block decodes by itself.
@@ -194,7 +199,7 @@ uint8_t spr_ima4_reindex(const uint8_t *bytes, size_t bytes_len, size_t from, ui
  * whoever took these bytes for a block. The headers of the channels used are looked at; with one channel the
  * seventh byte is data, whatever it is.
  *
- * SPR_REFUSED_CHANNELS: `channels` is not 1 or 2. SPR_REFUSED_LENGTHS: `block_len` is not allowed, or
+ * SPR_REFUSED_CHANNELS: `channels` is not 1 to 8. SPR_REFUSED_LENGTHS: `block_len` is not allowed, or
  * `samples_len` does not fit it. SPR_REFUSED_STEP_INDEX: a header has an index above 88. Then `samples` does not
  * change. */
 uint8_t spr_decode_ms(uint8_t channels, const uint8_t *block, size_t block_len, int16_t *samples,
@@ -209,20 +214,23 @@ uint8_t spr_decode_ms_lenient(uint8_t channels, const uint8_t *block, size_t blo
  * Reads `samples` and the index of each channel; the predictors that are passed do not matter, for the first
  * sample of a channel takes the place of its predictor. Writes all of `block`, and the states behind the last
  * samples. The header has the index as it is given, even above 88, and a fourth byte of 0. The first nibble
- * lowers such an index; a block of one sample for each channel has none, and hands the index back as given. With
- * one channel the second elements of both arrays come back as they went in. A block that is written from an index
- * above 88 is refused by the calls that read strictly, so pass indices of 0 to 88.
+ * lowers such an index; a block of one sample for each channel has none, and hands the index back as given. A block
+ * that is written from an index above 88 is refused by the calls that read strictly, so pass indices of 0 to 88.
+ *
+ * Both arrays have eight elements, whatever the channel number is. Those of channels that are not there come
+ * back as they went in.
  *
  * SPR_REFUSED_CHANNELS and SPR_REFUSED_LENGTHS: as in decoding. Then neither `block` nor a state changes. */
-uint8_t spr_encode_ms(uint8_t channels, const int16_t *samples, size_t samples_len, int16_t predictors[2],
-                      uint8_t step_indices[2], uint8_t *block, size_t block_len);
+uint8_t spr_encode_ms(uint8_t channels, const int16_t *samples, size_t samples_len,
+                      int16_t (*predictors)[SPR_MS_MOST_CHANNELS],
+                      uint8_t (*step_indices)[SPR_MS_MOST_CHANNELS], uint8_t *block, size_t block_len);
 
 /* An MS block, decoded and encoded again, from the indices of its own header.
  *
  * Reads `block`, strictly, as spr_decode_ms does. Writes all of `repacked`, and to `changed` 1 if any byte differs
  * from the block's, else 0. Repacking what was repacked changes nothing.
  *
- * SPR_REFUSED_CHANNELS: `channels` is not 1 or 2. SPR_REFUSED_LENGTHS: `block_len` is not allowed, or
+ * SPR_REFUSED_CHANNELS: `channels` is not 1 to 8. SPR_REFUSED_LENGTHS: `block_len` is not allowed, or
  * `repacked_len` is another. SPR_REFUSED_STEP_INDEX: as in decoding. Then neither `repacked` nor `changed`
  * changes. */
 uint8_t spr_repack_ms(uint8_t channels, const uint8_t *block, size_t block_len, uint8_t *repacked,

@@ -183,7 +183,7 @@ static void ms_call(uint8_t channels, size_t n, size_t m, int number)
     ms_decode(spr_decode_ms_lenient, channels, n, m, number);
     ms_decode(spr_decode_ms, channels, n, m, strictly(channels, given_bytes, number));
     fill();
-    CHECK(spr_encode_ms(channels, given_samples, m, predictors + 1, indices + 1, bytes, n) == number);
+    CHECK(spr_encode_ms(channels, given_samples, m, all_predictors, all_indices, bytes, n) == number);
     CHECK(kept(taken ? n : 0, 0) && stay_but(taken ? channels : 0));
     if (taken)
         ms_encoded(channels, m);
@@ -203,14 +203,20 @@ static void ms_lengths(void)
         {__LINE__, SPR_DONE, 2, 8, 2},                   {__LINE__, SPR_REFUSED_LENGTHS, 2, 8, 1},
         {__LINE__, SPR_REFUSED_LENGTHS, 2, 12, 10},      {__LINE__, SPR_DONE, 2, 16, 18},
         {__LINE__, SPR_DONE, 2, 65528, 131042},          {__LINE__, SPR_REFUSED_LENGTHS, 2, 65536, 131058},
-        {__LINE__, SPR_REFUSED_CHANNELS, 0, 4, 1},       {__LINE__, SPR_REFUSED_CHANNELS, 3, 12, 3},
-        {__LINE__, SPR_REFUSED_CHANNELS, 255, 1020, 255}, {__LINE__, SPR_REFUSED_CHANNELS, 3, 3, 3},
+        {__LINE__, SPR_DONE, 3, 12, 3},                  {__LINE__, SPR_REFUSED_LENGTHS, 3, 16, 11},
+        {__LINE__, SPR_DONE, 3, 24, 27},                 {__LINE__, SPR_DONE, 3, 65532, 131043},
+        {__LINE__, SPR_DONE, 8, 32, 8},                  {__LINE__, SPR_REFUSED_LENGTHS, 8, 32, 9},
+        {__LINE__, SPR_REFUSED_LENGTHS, 8, 48, 40},      {__LINE__, SPR_DONE, 8, 64, 72},
+        {__LINE__, SPR_DONE, 8, 65504, 130952},          {__LINE__, SPR_REFUSED_LENGTHS, 8, 65536, 131016},
+        {__LINE__, SPR_REFUSED_CHANNELS, 0, 4, 1},       {__LINE__, SPR_REFUSED_CHANNELS, 9, 36, 9},
+        {__LINE__, SPR_REFUSED_CHANNELS, 255, 1020, 255}, {__LINE__, SPR_REFUSED_CHANNELS, 9, 3, 3},
     };
     FOR_EACH(rows)
         ms_call((uint8_t)rows[k].channels, rows[k].n, rows[k].m, rows[k].number);
     static const int16_t two[SPR_MS_SAMPLES(2 & 3, 16 | 0)] = {0}, one[SPR_MS_SAMPLES(1 & 3, 4 | 1)] = {0};
     CHECK(sizeof two == 18 * sizeof *two && sizeof one == 3 * sizeof *one);
-    CHECK(SPR_MS_MOST_BYTES == 65535 && SPR_LOSS_MOST_SAMPLES == SPR_MS_SAMPLES(1, SPR_MS_MOST_BYTES));
+    CHECK(SPR_MS_SAMPLES(0, 4) == 0 && SPR_MS_SAMPLES(-1, 4) == 0 && SPR_MS_SAMPLES(9, 36) == 0);
+    CHECK(SPR_MS_MOST_CHANNELS == 8 && SPR_MS_MOST_BYTES == 65535 && SPR_LOSS_MOST_SAMPLES == SPR_MS_SAMPLES(1, SPR_MS_MOST_BYTES));
 }
 
 typedef uint8_t repacker(uint8_t, const uint8_t *, size_t, uint8_t *, size_t, uint8_t *);
@@ -233,7 +239,7 @@ static void ms_repack(repacker *repack, uint8_t channels, const uint8_t *block, 
         indices[1 + c] = block[4 * c + 2] < 88 ? block[4 * c + 2] : 88;
     const size_t m = SPR_MS_SAMPLES(channels, n);
     CHECK(spr_decode_ms_lenient(channels, block, n, samples, m) == SPR_DONE);
-    CHECK(spr_encode_ms(channels, samples, m, predictors + 1, indices + 1, again, n) == SPR_DONE);
+    CHECK(spr_encode_ms(channels, samples, m, all_predictors, all_indices, again, n) == SPR_DONE);
     CHECK(memcmp(bytes, again, n) == 0);
     CHECK(repack(channels, bytes, n, twice, n, changed + 1) == SPR_DONE);
     CHECK(changed[1] == 0 && memcmp(bytes, twice, n) == 0);
@@ -266,7 +272,7 @@ static void repacks(void)
 /* What SPR_MS_SAMPLES counts the calls take, and where it is 0 they refuse: to 300 bytes, and about the most. */
 static void ms_count(uint8_t channels)
 {
-    const int refusal = channels == 1 || channels == 2 ? SPR_REFUSED_LENGTHS : SPR_REFUSED_CHANNELS;
+    const int refusal = channels >= 1 && channels <= 8 ? SPR_REFUSED_LENGTHS : SPR_REFUSED_CHANNELS;
     for (row = 0; row < 65540; row += row == 300 ? 65200 : 1) {
         const size_t n = (size_t)row, m = SPR_MS_SAMPLES(channels, n);
         const int number = m > 0 ? SPR_DONE : refusal;
@@ -276,27 +282,43 @@ static void ms_count(uint8_t channels)
     }
 }
 
-/* Every index in the place of either header's, and with one channel in the seventh byte, beside the highest that is
- * taken. Then all lengths, with one of 200. */
+/* Every index in the place of one header's, beside the highest that is taken. Where that channel is not used, its
+ * place is data. */
+static void ms_index(uint8_t channels, size_t channel)
+{
+    const size_t n = 32 * (size_t)channels;
+    for (row = 0; row < 256; row++) {
+        given_bytes[4 * channel + 2] = (uint8_t)row;
+        ms_call(channels, n, SPR_MS_SAMPLES(channels, n), SPR_DONE);
+        repack_call(channels, given_bytes, n, n, SPR_DONE);
+    }
+    given_bytes[4 * channel + 2] = 88;
+}
+
+static void set_indices(uint8_t index)
+{
+    for (size_t c = 0; c < SPR_MS_MOST_CHANNELS; c++)
+        given_bytes[4 * c + 2] = index;
+}
+
+/* The first channel, the last one, and one that is not used. Then all lengths, with indices of 88 and of 200. */
 static void ms_indices(void)
 {
-    static const uint8_t numbers[] = {0, 1, 2, 3, 255};
-    const uint8_t first[2] = {given_bytes[2], given_bytes[6]};
-    given_bytes[2] = given_bytes[6] = 88;
-    for (uint8_t channels = 1; channels <= 2; channels++)
-        for (size_t c = 0; c < 2; c++) {
-            for (row = 0; row < 256; row++) {
-                given_bytes[4 * c + 2] = (uint8_t)row;
-                ms_call(channels, 16, SPR_MS_SAMPLES(channels, 16), SPR_DONE);
-                repack_call(channels, given_bytes, 16, 16, SPR_DONE);
-            }
-            given_bytes[4 * c + 2] = 88;
-        }
+    static const uint8_t numbers[] = {0, 1, 2, 3, 4, 5, 6, 7, 8, 9, 255};
+    uint8_t headers[4 * SPR_MS_MOST_CHANNELS];
+    memcpy(headers, given_bytes, sizeof headers);
+    set_indices(88);
+    for (uint8_t channels = 1; channels <= SPR_MS_MOST_CHANNELS; channels++) {
+        ms_index(channels, 0);
+        ms_index(channels, channels - 1u);
+        if (channels < SPR_MS_MOST_CHANNELS)
+            ms_index(channels, channels);
+    }
     for (size_t k = 0; k < 2 * sizeof numbers; k++) {
-        given_bytes[2] = given_bytes[6] = k % 2 ? 200 : 88;
+        set_indices(k % 2 ? 200 : 88);
         ms_count(numbers[k / 2]);
     }
-    given_bytes[2] = first[0], given_bytes[6] = first[1];
+    memcpy(given_bytes, headers, sizeof headers);
 }
 
 /* The three numbers stand between guards, and are the filled ones after a refusal. */

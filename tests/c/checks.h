@@ -23,11 +23,14 @@ static int16_t given_samples[MOST_SAMPLES], sample_cells[MOST_SAMPLES + 2 * GUAR
 static uint8_t *const bytes = byte_cells + GUARD;
 static int16_t *const samples = sample_cells + GUARD;
 
-/* Two states, at 1 and 2, with a guard on both sides. The indices are above 88. */
-static const int16_t old_predictors[4] = {FILL, 77, -77, FILL};
-static const uint8_t old_indices[4] = {FILL, 200, 201, FILL};
-static int16_t predictors[4];
-static uint8_t indices[4];
+/* Eight states, at 1 to 8, with a guard on both sides. The indices are above 88. */
+#define CELLS (SPR_MS_MOST_CHANNELS + 2)
+static const int16_t old_predictors[CELLS] = {FILL, 77, -77, 78, -78, 79, -79, 80, -80, FILL};
+static const uint8_t old_indices[CELLS] = {FILL, 200, 201, 202, 203, 204, 205, 206, 207, FILL};
+static int16_t predictors[CELLS];
+static uint8_t indices[CELLS];
+static int16_t (*const all_predictors)[SPR_MS_MOST_CHANNELS] = (int16_t (*)[SPR_MS_MOST_CHANNELS])(predictors + 1);
+static uint8_t (*const all_indices)[SPR_MS_MOST_CHANNELS] = (uint8_t (*)[SPR_MS_MOST_CHANNELS])(indices + 1);
 
 static void check(const char *file, int line, int holds)
 {
@@ -74,6 +77,6 @@ static int stay_but(size_t few)
 {
     const size_t k = 1 + few;
     return predictors[0] == old_predictors[0] && indices[0] == old_indices[0] &&
-           memcmp(predictors + k, old_predictors + k, (4 - k) * sizeof *predictors) == 0 &&
-           memcmp(indices + k, old_indices + k, 4 - k) == 0;
+           memcmp(predictors + k, old_predictors + k, (CELLS - k) * sizeof *predictors) == 0 &&
+           memcmp(indices + k, old_indices + k, CELLS - k) == 0;
 }

@@ -35,7 +35,7 @@ ghost use Rattle.channels.specs.States.{statesOf};
 ghost use Rattle.g711.specs.Law.{mu-law, A-law, sampleOf, codeOf};
 
 // The header has it too, and so has the Cargo.toml of the Rust crate.
-const VERSION: u32 = 400;
+const VERSION: u32 = 500;
 
 #[no_mangle]
 pub extern "C" fn spr_version() -> u32
@@ -211,7 +211,7 @@ pub extern "C" fn spr_decode_ms_lenient(channels: u8, block: &[u8], samples: &mu
     decode_adpcm_ima_ms_lenient(channels, block, samples)
 }
 
-// The states are read and written through two numbers each.
+// The states are read and written through two numbers each, for all eight channels.
 #[no_mangle]
 pub extern "C" fn spr_encode_ms(
     channels: u8,
