@@ -18,7 +18,7 @@ mod growth;
 mod ima4;
 mod loss;
 mod ms;
-// strict reading is timed, as callers get it; lenient reading is not
+// reading is timed as callers get it, strictly, and encoding over C
 #[allow(dead_code)]
 #[path = "../../tests/differential/src/ms/block.rs"]
 mod ms_block;
@@ -120,8 +120,13 @@ fn calls(of_ima4: &[Row], of_ms: &[Row], of_loss: &[Row]) {
     table("samples", of_ima4.iter().filter(shown).collect());
     println!(
         "Nanoseconds a sample, the best of {runs} runs over {} blocks of one channel, or {} of two.",
-        ms::BLOCKS,
-        ms::BLOCKS / 2
+        ms::USUAL.blocks,
+        ms::USUAL.blocks / 2
+    );
+    println!(
+        "Blocks of one group have eight bytes for each channel; of these there are {}, or {}.",
+        ms::ONE_GROUP.blocks,
+        ms::ONE_GROUP.blocks / 2
     );
     table("samples", of_ms.iter().collect());
     println!(

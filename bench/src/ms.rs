@@ -1,42 +1,70 @@
-//! MS blocks of the usual lengths, 1,024 bytes for each channel, one a call. Both sides are true calls.
+//! MS blocks of the usual lengths, 1,024 bytes for each channel, and of one group, 8 bytes for each. There is
+//! one a call, and both sides are true calls.
 
+use crate::ffi;
 use crate::growth;
 use crate::ms_block::{interleaved, oracle, ours, States};
 use crate::rounds::{round, Row};
 use crate::signal::{noise, speech};
 
-/// So many blocks of one channel are timed together, or half as many of two. No two have the same
-/// samples.
-pub const BLOCKS: usize = 128;
-/// Of a block, for each channel.
-const BYTES: usize = 1024;
-const SAMPLES: usize = 2041;
+/// How large blocks are.
+#[derive(Clone, Copy)]
+pub struct Size {
+    /// Of a block, for each channel.
+    bytes: usize,
+    samples: usize,
+    /// So many blocks of one channel are timed together, or half as many of two. No two have the same
+    /// samples.
+    pub blocks: usize,
+}
+
+pub const USUAL: Size = Size {
+    bytes: 1024,
+    samples: 2041,
+    blocks: 128,
+};
+/// In so short a block, what a call costs beside its nibbles is seen best.
+pub const ONE_GROUP: Size = Size {
+    bytes: 8,
+    samples: 9,
+    blocks: 1 << 14,
+};
 
 pub struct Content {
     name: &'static str,
+    size: Size,
     channels: u8,
     samples: Vec<i16>,
     bytes: Vec<u8>,
 }
 
 /// The noise is at full scale: most steps are large, and many samples are clipped.
-pub fn contents() -> [Content; 4] {
-    let (all, half) = (BLOCKS * SAMPLES, BLOCKS / 2 * SAMPLES);
+pub fn contents() -> Vec<Content> {
+    let contents = [
+        both("speech", USUAL, speech),
+        both("noise", USUAL, noise),
+        both("speech, one group", ONE_GROUP, speech),
+    ];
+    contents.into_iter().flatten().collect()
+}
+
+/// Of one channel, and of two.
+fn both(name: &'static str, size: Size, of: fn(u64, usize) -> Vec<i16>) -> [Content; 2] {
+    let (all, half) = (size.blocks * size.samples, size.blocks / 2 * size.samples);
     [
-        content("speech", 1, speech(1, all)),
-        content("speech", 2, interleaved(&speech(1, half), &speech(2, half))),
-        content("noise", 1, noise(1, all)),
-        content("noise", 2, interleaved(&noise(1, half), &noise(2, half))),
+        content(name, size, 1, of(1, all)),
+        content(name, size, 2, interleaved(&of(1, half), &of(2, half))),
     ]
 }
 
 /// What grows has one channel, and a thousand blocks.
 pub fn growing() -> Content {
-    content("speech", 1, speech(1, growth::MOST * SAMPLES))
+    let samples = speech(1, growth::MOST * USUAL.samples);
+    content("speech", USUAL, 1, samples)
 }
 
-fn content(name: &'static str, channels: u8, samples: Vec<i16>) -> Content {
-    let (to, from) = lengths(channels);
+fn content(name: &'static str, size: Size, channels: u8, samples: Vec<i16>) -> Content {
+    let (to, from) = lengths(size, channels);
     let mut bytes = vec![0; samples.len() / from * to];
     let mut states = [(0, 0); 2];
     for (samples, block) in samples.chunks_exact(from).zip(bytes.chunks_exact_mut(to)) {
@@ -44,6 +72,7 @@ fn content(name: &'static str, channels: u8, samples: Vec<i16>) -> Content {
     }
     Content {
         name,
+        size,
         channels,
         samples,
         bytes,
@@ -51,14 +80,15 @@ fn content(name: &'static str, channels: u8, samples: Vec<i16>) -> Content {
 }
 
 /// The bytes and the samples of a block.
-fn lengths(channels: u8) -> (usize, usize) {
+fn lengths(size: Size, channels: u8) -> (usize, usize) {
     let channels = usize::from(channels);
-    (channels * BYTES, channels * SAMPLES)
+    (channels * size.bytes, channels * size.samples)
 }
 
 /// Blocks that are timed together, and the number that their row shows.
 struct Blocks<'a> {
     name: &'static str,
+    size: Size,
     channels: u8,
     number: (usize, &'static str),
     samples: &'a [i16],
@@ -69,6 +99,7 @@ impl Content {
     fn all(&self) -> Blocks<'_> {
         Blocks {
             name: self.name,
+            size: self.size,
             channels: self.channels,
             number: (self.channels.into(), "channels"),
             samples: &self.samples,
@@ -77,7 +108,7 @@ impl Content {
     }
 
     fn first(&self, blocks: usize) -> Blocks<'_> {
-        let (bytes, samples) = lengths(self.channels);
+        let (bytes, samples) = lengths(self.size, self.channels);
         Blocks {
             number: (blocks, "blocks"),
             samples: &self.samples[..blocks * samples],
@@ -105,7 +136,7 @@ pub fn growth(content: &Content) -> Vec<Row<'_>> {
 
 fn decode(blocks: Blocks) -> Row {
     let channels = blocks.channels;
-    let (from, to) = lengths(channels);
+    let (from, to) = lengths(blocks.size, channels);
     // a decoder has no state
     let round = round(
         [blocks.samples.len(); 2],
@@ -117,15 +148,21 @@ fn decode(blocks: Blocks) -> Row {
     Row::new("decode_ms", blocks.name, blocks.number, None, round)
 }
 
+/// Ours is lent two arrays, as over C, and the Rust its states.
 fn encode(blocks: Blocks) -> Row {
+    type State = ([i16; 2], [u8; 2], States);
     let channels = blocks.channels;
-    let (to, from) = lengths(channels);
+    let (to, from) = lengths(blocks.size, channels);
     let round = round(
         [blocks.samples.len(); 2],
         (blocks.samples, from),
         to,
-        move |samples, states: &mut States, block| ours::encode(channels, samples, states, block),
-        move |samples, states: &mut States, block| oracle::encode(channels, samples, states, block),
+        move |samples, (predictors, indices, _): &mut State, block| {
+            ffi::encode_ms(channels, samples, predictors, indices, block)
+        },
+        move |samples, (.., states): &mut State, block| {
+            oracle::encode(channels, samples, states, block)
+        },
     );
     Row::new("encode_ms", blocks.name, blocks.number, None, round)
 }
@@ -135,7 +172,7 @@ fn encode(blocks: Blocks) -> Row {
 fn repack(blocks: Blocks) -> Row {
     type State = (u8, Vec<i16>);
     let channels = blocks.channels;
-    let (bytes, _) = lengths(channels);
+    let (bytes, _) = lengths(blocks.size, channels);
     let round = round(
         [blocks.samples.len(); 2],
         (blocks.bytes, bytes),
