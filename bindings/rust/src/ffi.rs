@@ -221,8 +221,8 @@ pub fn decode_ima4_from(
     }
 }
 
-// SAFETY of MS blocks: as of ima4. Each of the encoder's two pointers to states is to two numbers, of one
-// channel too.
+// SAFETY of MS blocks: as of ima4. Each of the encoder's two pointers to states is to eight numbers, whatever
+// the channel number is.
 
 #[inline(always)]
 pub fn decode_ms(channels: u8, block: &[u8], samples: &mut [i16]) -> u8 {
@@ -242,8 +242,8 @@ pub fn decode_ms_lenient(channels: u8, block: &[u8], samples: &mut [i16]) -> u8 
 pub fn encode_ms(
     channels: u8,
     samples: &[i16],
-    predictors: &mut [i16; 2],
-    step_indices: &mut [u8; 2],
+    predictors: &mut [i16; 8],
+    step_indices: &mut [u8; 8],
     block: &mut [u8],
 ) -> u8 {
     let (len, block_len) = (samples.len(), block.len());

@@ -3,6 +3,13 @@
 use crate::refusal::{answer, Refusal};
 use crate::{ffi, AdpcmImaState};
 
+/// The bytes of an ima4 block.
+pub const IMA4_BLOCK_BYTES: usize = 34;
+/// The samples of an ima4 block.
+pub const IMA4_BLOCK_SAMPLES: usize = 64;
+/// The most ima4 blocks that a run may have.
+pub const IMA4_MOST_BLOCKS: usize = 1024;
+
 /// Decodes one ima4 block, all of `out_samples`. The next state takes the place of `state`.
 ///
 /// A block is two header bytes, the top nine bits of a predictor and seven bits of an index, and 64
@@ -26,9 +33,9 @@ use crate::{ffi, AdpcmImaState};
 /// ```
 #[inline]
 pub fn decode_adpcm_ima_ima4(
-    buf: &[u8; 34],
+    buf: &[u8; IMA4_BLOCK_BYTES],
     state: &mut AdpcmImaState,
-    out_samples: &mut [i16; 64],
+    out_samples: &mut [i16; IMA4_BLOCK_SAMPLES],
 ) {
     let done = decode_adpcm_ima_ima4_run(buf, state, out_samples);
     debug_assert_eq!(done, Ok(()), "one block by its type is not refused");
@@ -55,9 +62,9 @@ pub fn decode_adpcm_ima_ima4(
 /// ```
 #[inline]
 pub fn encode_adpcm_ima_ima4(
-    samples: &[i16; 64],
+    samples: &[i16; IMA4_BLOCK_SAMPLES],
     state: &mut AdpcmImaState,
-    out_buf: &mut [u8; 34],
+    out_buf: &mut [u8; IMA4_BLOCK_BYTES],
 ) {
     let done = encode_adpcm_ima_ima4_run(samples, state, out_buf);
     debug_assert_eq!(done, Ok(()), "one block by its type is not refused");
@@ -118,16 +125,19 @@ pub fn decode_adpcm_ima_ima4_run(
 ///
 /// ```
 /// use sprettuhol::{encode_adpcm_ima_ima4_run, AdpcmImaState, Refusal};
+/// use sprettuhol::{IMA4_BLOCK_BYTES, IMA4_BLOCK_SAMPLES, IMA4_MOST_BLOCKS};
 ///
 /// let (mut state, mut bytes) = (AdpcmImaState { predictor: 100, step_index: 0 }, [1; 68]);
 /// encode_adpcm_ima_ima4_run(&[100; 128], &mut state, &mut bytes)?;
 /// assert_eq!(bytes, [0; 68]);
 ///
-/// // 1,025 blocks
-/// let (mut state, mut bytes) = (AdpcmImaState { predictor: 5, step_index: 200 }, [1; 1025 * 34]);
-/// let refused = encode_adpcm_ima_ima4_run(&[100; 1025 * 64], &mut state, &mut bytes);
+/// // a block too many
+/// const SAMPLES: usize = (IMA4_MOST_BLOCKS + 1) * IMA4_BLOCK_SAMPLES;
+/// const BYTES: usize = (IMA4_MOST_BLOCKS + 1) * IMA4_BLOCK_BYTES;
+/// let (mut state, mut bytes) = (AdpcmImaState { predictor: 5, step_index: 200 }, [1; BYTES]);
+/// let refused = encode_adpcm_ima_ima4_run(&[100; SAMPLES], &mut state, &mut bytes);
 /// assert_eq!(refused, Err(Refusal::Blocks));
-/// assert_eq!((state.predictor, state.step_index, bytes), (5, 200, [1; 1025 * 34]));
+/// assert_eq!((state.predictor, state.step_index, bytes), (5, 200, [1; BYTES]));
 /// # Ok::<(), Refusal>(())
 /// ```
 #[inline]

@@ -1,7 +1,7 @@
 //! Lenient reading of MS blocks: an index above 88 in a header is read as 88, as audio-codec-algorithms
 //! reads it. It is for callers that cannot leave such blocks out, such as the importer of an archive.
 //!
-//! The two calls have the names and the signatures of those at the root, and differ from them in this
+//! The three calls have the names and the signatures of those at the root, and differ from them in this
 //! alone. They never answer [`Error::InvalidStepIndex`] or [`Refusal::StepIndex`].
 
 use crate::refusal::{answer, Refusal};
@@ -36,6 +36,35 @@ pub fn decode_adpcm_ima_ms(
     Ok(answer(ffi::decode_ms_lenient(channels, buf, out_samples))?)
 }
 
+/// Decodes an MS block of 1 to 8 channels as
+/// [`decode_adpcm_ima_ms_channels`](crate::decode_adpcm_ima_ms_channels) does, but reads an index above 88
+/// as 88.
+///
+/// # Errors
+///
+/// [`Refusal::Channels`], and after that [`Refusal::Lengths`]. Then `out_samples` is as it was.
+///
+/// ```
+/// use sprettuhol::{decode_adpcm_ima_ms_channels, lenient, Refusal};
+///
+/// // three channels, of which the last has an index of 200
+/// let block = [10, 0, 0, 0, 20, 0, 0, 0, 30, 0, 200, 0];
+/// let mut samples = [0; 3];
+/// lenient::decode_adpcm_ima_ms_channels(3, &block, &mut samples)?;
+/// assert_eq!(samples, [10, 20, 30]);
+/// let refused = decode_adpcm_ima_ms_channels(3, &block, &mut samples);
+/// assert_eq!(refused, Err(Refusal::StepIndex));
+/// # Ok::<(), Refusal>(())
+/// ```
+#[inline]
+pub fn decode_adpcm_ima_ms_channels(
+    channels: u8,
+    buf: &[u8],
+    out_samples: &mut [i16],
+) -> Result<(), Refusal> {
+    answer(ffi::decode_ms_lenient(channels, buf, out_samples))
+}
+
 /// Repacks an MS block as [`repack_adpcm_ima_ms`](crate::repack_adpcm_ima_ms) does, but takes an index
 /// above 88 as 88. So `out` has 88 there, and the answer is `true`.
 ///
@@ -50,7 +79,7 @@ pub fn decode_adpcm_ima_ms(
 /// assert_eq!(lenient::repack_adpcm_ima_ms(1, &[0, 0, 200, 0, 0], &mut out), Ok(true));
 /// assert_eq!(out, [0, 0, 88, 0, 0]);
 ///
-/// let refused = lenient::repack_adpcm_ima_ms(3, &[200; 5], &mut out);
+/// let refused = lenient::repack_adpcm_ima_ms(9, &[200; 5], &mut out);
 /// assert_eq!(refused, Err(Refusal::Channels));
 /// ```
 #[inline]

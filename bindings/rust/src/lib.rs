@@ -20,9 +20,12 @@
 //! ```
 //!
 //! Everything compiles as before, unless the caller matches on all variants of [`Error`], which has a third
-//! one. Every call answers as before, but for one: [`decode_adpcm_ima_ms`] refuses a block with a step index
-//! above 88 in a header, which that crate reads as 88. To keep the old behaviour, name
-//! [`lenient::decode_adpcm_ima_ms`].
+//! one. Every call answers as before, but for two:
+//!
+//! - [`decode_adpcm_ima_ms`] refuses a block with a step index above 88 in a header, which that crate reads as
+//!   88. To keep the old behaviour, name [`lenient::decode_adpcm_ima_ms`].
+//! - [`encode_adpcm_ima_ms`] takes three to eight states too, as many as channels. That crate takes one or two,
+//!   and refuses all other numbers of them.
 //!
 //! Its two calls that turn a code of one law into one of the other are left behind.
 //!
@@ -30,11 +33,12 @@
 //!
 //! Runs of ima4 blocks ([`decode_adpcm_ima_ima4_run`], [`encode_adpcm_ima_ima4_run`]), an index of a run
 //! ([`index_adpcm_ima_ima4`], [`index_bytes`], [`reindex_adpcm_ima_ima4`]) and decoding by it from any
-//! block on ([`decode_adpcm_ima_ima4_from`]), repacking of MS blocks ([`repack_adpcm_ima_ms`]) and the
-//! loss report ([`loss_report`]). They answer a [`Refusal`] where the ported calls answer an [`Error`].
+//! block on ([`decode_adpcm_ima_ima4_from`]), decoding of MS blocks of up to eight channels
+//! ([`decode_adpcm_ima_ms_channels`], [`ms_samples`]), repacking of MS blocks ([`repack_adpcm_ima_ms`]) and
+//! the loss report ([`loss_report`]). They answer a [`Refusal`] where the ported calls answer an [`Error`].
 //!
-//! The two calls of [`lenient`] take MS blocks with a step index above 88, which those of the same names
-//! here refuse.
+//! The three calls of [`lenient`] take MS blocks with a step index above 88, which those of the same names
+//! here refuse. The constants are those that the C header has as macros.
 //!
 //! # What is proved
 //!
@@ -70,8 +74,10 @@ pub use adpcm_ima::{decode_adpcm_ima, encode_adpcm_ima, AdpcmImaState};
 pub use g711::{decode_alaw, decode_ulaw, encode_alaw, encode_ulaw};
 pub use ima4::{decode_adpcm_ima_ima4, encode_adpcm_ima_ima4};
 pub use ima4::{decode_adpcm_ima_ima4_run, encode_adpcm_ima_ima4_run};
-pub use loss::{loss_report, Loss};
-pub use ms::{decode_adpcm_ima_ms, encode_adpcm_ima_ms};
+pub use ima4::{IMA4_BLOCK_BYTES, IMA4_BLOCK_SAMPLES, IMA4_MOST_BLOCKS};
+pub use loss::{loss_report, Loss, LOSS_MOST_SAMPLES};
+pub use ms::{decode_adpcm_ima_ms, decode_adpcm_ima_ms_channels, encode_adpcm_ima_ms};
+pub use ms::{ms_samples, MS_MOST_BYTES, MS_MOST_CHANNELS};
 pub use refusal::{Error, Refusal};
 pub use repacking::repack_adpcm_ima_ms;
 pub use seek::{decode_adpcm_ima_ima4_from, index_bytes};

@@ -3,6 +3,9 @@
 use crate::ffi;
 use crate::refusal::{answer, Refusal};
 
+/// The most samples that a run may have in a loss report, as many as the longest MS block has.
+pub const LOSS_MOST_SAMPLES: usize = 131_063;
+
 /// What differs between two runs of samples of equal length.
 #[derive(Debug, Clone, Copy, PartialEq, Eq)]
 pub struct Loss {
@@ -22,7 +25,7 @@ pub struct Loss {
 /// [`Refusal::Lengths`], if one run is longer than the other, or both are longer than that.
 ///
 /// ```
-/// use sprettuhol::{loss_report, Loss, Refusal};
+/// use sprettuhol::{loss_report, Loss, Refusal, LOSS_MOST_SAMPLES};
 ///
 /// let moved = Loss { count: 2, first: Some(1), peak: 3 };
 /// assert_eq!(loss_report(&[0, 11, 17], &[0, 10, 20]), Ok(moved));
@@ -32,7 +35,8 @@ pub struct Loss {
 ///
 /// assert_eq!(loss_report(&[i16::MIN], &[i16::MAX])?.peak, 65_535);
 /// assert_eq!(loss_report(&[0, 11, 17], &[0, 11]), Err(Refusal::Lengths));
-/// assert_eq!(loss_report(&[0; 131_064], &[0; 131_064]), Err(Refusal::Lengths));
+/// let long = [0; LOSS_MOST_SAMPLES + 1];
+/// assert_eq!(loss_report(&long, &long), Err(Refusal::Lengths));
 /// # Ok::<(), Refusal>(())
 /// ```
 #[inline]

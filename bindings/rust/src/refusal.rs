@@ -8,7 +8,7 @@ use core::fmt;
 #[derive(Debug, Clone, Copy, PartialEq, Eq, Hash)]
 #[non_exhaustive]
 pub enum Refusal {
-    /// 1: the channel number is not 1 or 2.
+    /// 1: the channel number is not 1 to 8.
     Channels,
     /// 2: a length breaks the rules of MS blocks or of the loss report, or two lengths do not fit.
     Lengths,
@@ -28,11 +28,11 @@ impl Refusal {
     /// ```
     /// use sprettuhol::{repack_adpcm_ima_ms, Refusal};
     ///
-    /// let refused = repack_adpcm_ima_ms(3, &[0; 4], &mut [0; 4]);
+    /// let refused = repack_adpcm_ima_ms(9, &[0; 4], &mut [0; 4]);
     /// assert_eq!(refused.map_err(Refusal::number), Err(1));
     /// let others = [Refusal::Lengths, Refusal::Blocks, Refusal::Index, Refusal::StepIndex];
     /// assert_eq!(others.map(Refusal::number), [2, 3, 5, 8]);
-    /// assert_eq!(Refusal::Channels.to_string(), "the channel number is not 1 or 2");
+    /// assert_eq!(Refusal::Channels.to_string(), "the channel number is not 1 to 8");
     /// ```
     pub fn number(self) -> u8 {
         match self {
@@ -48,7 +48,7 @@ impl Refusal {
 impl fmt::Display for Refusal {
     fn fmt(&self, to: &mut fmt::Formatter<'_>) -> fmt::Result {
         to.write_str(match self {
-            Refusal::Channels => "the channel number is not 1 or 2",
+            Refusal::Channels => "the channel number is not 1 to 8",
             Refusal::Lengths => "a length is not allowed, or two lengths do not fit each other",
             Refusal::Blocks => "not 34 bytes and 64 samples a block, or over 1,024 blocks",
             Refusal::Index => "not 1 to 64 blocks a state, an unfitting index, or no such block",
@@ -92,7 +92,7 @@ impl core::error::Error for Refusal {}
 /// ```
 #[derive(Debug)]
 pub enum Error {
-    /// The number of channels is not 1 or 2.
+    /// The number of channels is not 1 to 8.
     InvalidChannels,
 
     /// A length is not allowed, or two lengths do not fit each other.

@@ -1,4 +1,4 @@
-//! An MS block decoded and encoded again.
+//! An MS block, of one to eight channels, decoded and encoded again.
 
 use crate::ffi;
 use crate::refusal::{answer, Refusal};
@@ -14,11 +14,10 @@ use crate::refusal::{answer, Refusal};
 ///
 /// # Errors
 ///
-/// [`Refusal::Channels`], if `channels` is not 1 or 2; after that [`Refusal::Lengths`], if `block` has
-/// a length that [`decode_adpcm_ima_ms`](crate::decode_adpcm_ima_ms) does not take, or `out` another
-/// one than `block`; after that [`Refusal::StepIndex`], if the header of a channel has an index above 88.
-/// Then `out` is as it was. [`lenient::repack_adpcm_ima_ms`](crate::lenient::repack_adpcm_ima_ms) takes such
-/// an index as 88.
+/// [`Refusal::Channels`], if `channels` is not 1 to 8; after that [`Refusal::Lengths`], if `block` has
+/// a length for which [`ms_samples`](crate::ms_samples) is `None`, or `out` another one than `block`; after
+/// that [`Refusal::StepIndex`], if the header of a channel has an index above 88. Then `out` is as it was.
+/// [`lenient::repack_adpcm_ima_ms`](crate::lenient::repack_adpcm_ima_ms) takes such an index as 88.
 ///
 /// ```
 /// use sprettuhol::{repack_adpcm_ima_ms, Refusal};
@@ -38,7 +37,7 @@ use crate::refusal::{answer, Refusal};
 /// // an index of 89 or more, which is looked at last
 /// let mut out = [1; 5];
 /// assert_eq!(repack_adpcm_ima_ms(1, &[0, 0, 89, 0, 0], &mut out), Err(Refusal::StepIndex));
-/// assert_eq!(repack_adpcm_ima_ms(3, &[200; 5], &mut out), Err(Refusal::Channels));
+/// assert_eq!(repack_adpcm_ima_ms(9, &[200; 5], &mut out), Err(Refusal::Channels));
 /// assert_eq!(repack_adpcm_ima_ms(2, &[200; 5], &mut out), Err(Refusal::Lengths));
 /// assert_eq!(repack_adpcm_ima_ms(1, &[200; 4], &mut out), Err(Refusal::Lengths));
 /// assert_eq!(out, [1; 5]);

@@ -1,22 +1,22 @@
 //! The index of a run of ima4 blocks, by which decoding starts at any of them.
 
 use crate::refusal::{answer, Refusal};
-use crate::{ffi, AdpcmImaState};
+use crate::{ffi, AdpcmImaState, IMA4_MOST_BLOCKS};
 
 /// How many bytes the index of a run has, with a state for each `every` blocks: 4, and 3 for each state.
 /// It is 0 where [`index_adpcm_ima_ima4`] refuses the number of blocks or `every`.
 ///
 /// ```
-/// use sprettuhol::index_bytes;
+/// use sprettuhol::{index_bytes, IMA4_MOST_BLOCKS};
 ///
 /// assert_eq!([index_bytes(0, 1), index_bytes(64, 64), index_bytes(65, 64)], [4, 7, 10]);
 /// assert_eq!([index_bytes(1, 0), index_bytes(1, 65), index_bytes(1025, 1)], [0, 0, 0]);
 ///
-/// const MOST: usize = index_bytes(1024, 1);
+/// const MOST: usize = index_bytes(IMA4_MOST_BLOCKS, 1);
 /// assert_eq!(MOST, 3076);
 /// ```
 pub const fn index_bytes(blocks: usize, every: u8) -> usize {
-    if blocks > 1024 || !matches!(every, 1..=64) {
+    if blocks > IMA4_MOST_BLOCKS || !matches!(every, 1..=64) {
         return 0;
     }
     4 + 3 * blocks.div_ceil(every as usize)
