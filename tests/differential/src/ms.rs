@@ -1,4 +1,4 @@
-//! MS blocks, of one channel and of two. There is no end of them, so what a difference could hang on is
+//! MS blocks, of one to eight channels. There is no end of them, so what a difference could hang on is
 //! gone over one by one: the headers and the states, what the samples are like, the channel number, and
 //! the buffers' lengths. All of it is lenient reading, as the oracle reads; strict reading has runs of its
 //! own. What the scope names by number is held at the end.

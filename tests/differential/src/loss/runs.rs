@@ -45,7 +45,7 @@ fn coded(run: &[i16]) -> Vec<i16> {
     let len = run.len().saturating_sub(1) / 2;
     let mut block = vec![0; len + 4];
     let samples = &mut after[..fitting(1, len + 4).min(run.len())];
-    encode(1, samples, &mut [(0, 0); 2], &mut block);
+    encode(1, samples, &mut [(0, 0); 8], &mut block);
     decode(1, &block, samples);
     after
 }

@@ -1,8 +1,8 @@
 //! An MS block, in one shape for both sides: the channel number, what goes in, what comes out, and the
 //! number that is returned. That is 0 when all is done, 1 for a channel number and 2 for a length that is
-//! not taken. The encoder is lent the states of two channels besides, of which a block of one channel
-//! uses the first. Repacking is lent a number that says whether any byte changed, 1 or 0. bench/ uses this
-//! file too.
+//! not taken. The encoder is lent the states of eight channels besides, of which a block uses as many as it
+//! has channels, from the first on. Repacking is lent a number that says whether any byte changed, 1 or 0.
+//! bench/ uses this file too.
 //!
 //! The oracle reads an index above 88 as 88. Our lenient calls do the same, and are held to it. The others
 //! are strict: they refuse such a block by 8.
@@ -11,18 +11,29 @@
 pub mod oracle;
 
 use crate::blocks::State;
+pub use oracle::States;
+use std::array;
 
-pub type States = [State; 2];
+/// States for eight channels: these for the first two, and others for each two behind them.
+pub fn eight(two: [State; 2]) -> States {
+    array::from_fn(|channel| {
+        let (predictor, index) = two[channel % 2];
+        let turn = (channel / 2) as u8;
+        let predictor = predictor.wrapping_add(7_919 * i16::from(turn));
+        (predictor, index.wrapping_add(51 * turn))
+    })
+}
 
-/// Samples of two channels, as a block has them: one of the left, one of the right, and so on.
-pub fn interleaved(left: &[i16], right: &[i16]) -> Vec<i16> {
-    let frames = left.iter().zip(right);
-    frames.flat_map(|(&left, &right)| [left, right]).collect()
+/// Samples of several channels, as a block has them: one of each in turn, then the next of each, and so on.
+pub fn interleaved(channels: &[Vec<i16>]) -> Vec<i16> {
+    let frame = |place| channels.iter().map(move |samples| samples[place]);
+    (0..channels[0].len()).flat_map(frame).collect()
 }
 
 pub mod ours {
     use super::States;
     use crate::ffi;
+    use std::array;
 
     #[inline(always)]
     pub fn decode(channels: u8, block: &[u8], samples: &mut [i16]) -> u8 {
@@ -39,7 +50,7 @@ pub mod ours {
         let mut predictors = states.map(|(predictor, _)| predictor);
         let mut indices = states.map(|(_, index)| index);
         let number = ffi::encode_ms(channels, samples, &mut predictors, &mut indices, block);
-        *states = [0, 1].map(|channel| (predictors[channel], indices[channel]));
+        *states = array::from_fn(|channel| (predictors[channel], indices[channel]));
         number
     }
 

@@ -1,10 +1,10 @@
-//! The same blocks by strict and by lenient reading: with every index on either side, and with lengths and
+//! The same blocks by strict and by lenient reading: with every index in each channel, and with lengths and
 //! channel numbers that are not taken, which are refused before an index is.
 
 use super::block::oracle::{self, fitting};
 use super::block::ours;
 use super::both::Decode;
-use super::lengths::{self, LONGEST};
+use super::lengths::{self, CHANNELS, LONGEST};
 use super::strict::refuses;
 use crate::headers::{bodies, window};
 use crate::outcome::Outcome;
@@ -14,7 +14,7 @@ use crate::runs::random;
 
 /// What a call returns that refuses an index.
 pub const REFUSED: u8 = 8;
-/// A channel number, and the length of a block.
+/// One channel or two, and the length of a block.
 const SIZES: [(u8, usize); 8] = [
     (1, 4),
     (1, 7),
@@ -35,8 +35,8 @@ pub fn reports(progress: bool) -> [Report; 2] {
     });
     let refusals = Report::start(progress, "ms refusals");
     each_length(|block| {
-        for len in lengths::samples(block.len()) {
-            for channels in [0, 1, 2, 3, 255] {
+        for channels in CHANNELS {
+            for len in lengths::samples(channels, block.len()) {
                 decode(&refusals, channels, block, len);
             }
         }
@@ -64,24 +64,50 @@ fn decode(report: &Report, channels: u8, block: &[u8], len: usize) {
 
 /// What is printed of a block.
 pub fn head(block: &[u8]) -> &[u8] {
-    &block[..block.len().min(8)]
+    &block[..block.len().min(32)]
+}
+
+pub fn each_block(work: impl Fn(u8, &[u8]) + Sync) {
+    let pool = bodies();
+    each_pair(&pool, &work);
+    each_place(&pool, &work);
 }
 
 /// Calls `work` on blocks with every left index, in the third byte, and with every seventh byte. Of two
 /// channels that is the right index. Of one channel it is data, and a block of four bytes has none.
-pub fn each_block(work: impl Fn(u8, &[u8]) + Sync) {
-    let pool = bodies();
+fn each_pair(pool: &[u8], work: impl Fn(u8, &[u8]) + Sync) {
     each(0..=u16::MAX, |pair| {
         let [third, seventh] = pair.to_be_bytes();
         for (channels, len) in SIZES {
             for (turn, predictor) in PREDICTORS.iter().enumerate() {
-                let mut block = window(&pool, usize::from(pair) * 3 + turn, len).to_vec();
+                let mut block = window(pool, usize::from(pair) * 3 + turn, len).to_vec();
                 block[..2].copy_from_slice(&predictor.to_le_bytes());
                 block[2] = third;
                 if let Some(byte) = block.get_mut(6) {
                     *byte = seventh;
                 }
                 work(channels, &block);
+            }
+        }
+    });
+}
+
+/// The same of three to eight channels: every index in each header, beside others of 0 to 88. Behind the headers
+/// every byte stands in the next such place, where it is data.
+fn each_place(pool: &[u8], work: impl Fn(u8, &[u8]) + Sync) {
+    let all = (3..=8).flat_map(|channels| (0..=channels).map(move |place| (channels, place)));
+    each(all, |(channels, place)| {
+        for byte in 0..=u8::MAX {
+            for turn in 0..6 {
+                let len = 4 * channels * [1, 2, 5][turn % 3];
+                let mut block = window(pool, usize::from(byte) * 6 + turn, len).to_vec();
+                for header in block.chunks_exact_mut(4).take(channels) {
+                    header[2] %= 89;
+                }
+                if let Some(third) = block.get_mut(4 * place + 2) {
+                    *third = byte;
+                }
+                work(channels as u8, &block);
             }
         }
     });

@@ -10,8 +10,12 @@ use crate::parallel::each;
 use crate::report::Report;
 use crate::runs::{random, spoilt};
 
-/// The indices on the left and on the right.
-const INDICES: [(u8, u8); 3] = [(0, 0), (88, 1), (200, 44)];
+/// The indices of eight channels.
+const INDICES: [[u8; 8]; 3] = [
+    [0; 8],
+    [88, 1, 44, 0, 87, 2, 60, 88],
+    [200, 44, 88, 255, 0, 89, 128, 150],
+];
 
 /// Compared are both numbers and all bytes. What was encoded from indices of the table is not changed, and
 /// what was repacked once is not changed by repacking it again.
@@ -26,9 +30,9 @@ pub fn reports(progress: bool) -> [Report; 3] {
     each(taken().into_iter(), |(channels, len)| {
         let seed = len as u64 % 8 + 1;
         for (name, samples) in contents(channels, seed, fitting(channels, len)) {
-            for (left, right) in INDICES {
-                let block = encoded(channels, &samples, [(0, left), (0, right)], len);
-                if left.max(right) <= 88 {
+            for indices in INDICES {
+                let block = encoded(channels, &samples, indices.map(|index| (0, index)), len);
+                if indices.iter().all(|&index| index <= 88) {
                     compare(&written, name, channels, &block, len, unchanged);
                 }
                 repack(("encoded", name), channels, &block);

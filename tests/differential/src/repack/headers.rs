@@ -1,10 +1,10 @@
 //! Short blocks, with all that a header can say: for one channel every predictor with every index, for
-//! two every index on the left with every index on the right. The fourth byte is 0 in some, and takes
-//! all values in others.
+//! two every index on the left with every index on the right, and for more every index in each channel. The
+//! fourth byte is 0 in some, and takes all values in others.
 
-use super::both::compare_all;
+use super::both::{compare, compare_all, oracle};
 use crate::headers::bodies;
-use crate::ms::headers::{block, mono, stereo};
+use crate::ms::headers::{block, many, mono, stereo, write_block};
 use crate::parallel::each;
 use crate::report::Report;
 
@@ -15,13 +15,20 @@ pub fn report(progress: bool) -> Report {
     each(0..=u8::MAX, |index| {
         compare_all::<4>(&report, 1, mono(index).map(|head| block(&head, &pool)));
         compare_all::<4>(&report, 1, fourths(index));
-        let blocks = mono(index).map(|head| plain(block(&head, &pool)));
+        let blocks = mono(index).map(|head| plain(1, block(&head, &pool)));
         compare_all::<8>(&report, 1, blocks);
         compare_all::<8>(&report, 2, stereo(index).map(|head| block(&head, &pool)));
         let blocks = stereo(index).map(|head| block(&head, &pool));
         compare_all::<24>(&report, 2, blocks);
-        let blocks = stereo(index).map(|head| plain(block(&head, &pool)));
+        let blocks = stereo(index).map(|head| plain(2, block(&head, &pool)));
         compare_all::<24>(&report, 2, blocks);
+        for (heads, len) in many(index) {
+            let (channels, mut block) = (heads.len(), vec![0; len]);
+            write_block(&mut block, &heads, &pool);
+            compare(&report, &heads, channels as u8, &block, len, oracle);
+            clear_fourths(channels, &mut block);
+            compare(&report, &heads, channels as u8, &block, len, oracle);
+        }
     });
     report
 }
@@ -35,12 +42,14 @@ fn fourths(index: u8) -> impl Iterator<Item = [u8; 4]> {
     })
 }
 
-/// With a fourth byte of 0, so that no byte of the header need change. Of a block of one channel the
-/// second place is in its body, and stays.
-fn plain<const BYTES: usize>(mut block: [u8; BYTES]) -> [u8; BYTES] {
-    block[3] = 0;
-    if BYTES > 8 {
-        block[7] = 0;
-    }
+/// With a fourth byte of 0, so that no byte of a header need change.
+fn plain<const BYTES: usize>(channels: usize, mut block: [u8; BYTES]) -> [u8; BYTES] {
+    clear_fourths(channels, &mut block);
     block
+}
+
+fn clear_fourths(channels: usize, block: &mut [u8]) {
+    for header in block.chunks_exact_mut(4).take(channels) {
+        header[3] = 0;
+    }
 }

@@ -2,7 +2,7 @@
 //! are taken and for some that are not. What a refused call was lent is left as it was.
 
 use super::both::{compare, oracle};
-use crate::ms::lengths::blocks;
+use crate::ms::lengths::{blocks, CHANNELS, LONGEST};
 use crate::parallel::each;
 use crate::report::Report;
 use crate::runs::random;
@@ -11,10 +11,10 @@ use std::collections::BTreeSet;
 /// Compared are both numbers, and the buffer with the room about it.
 pub fn report(progress: bool) -> Report {
     let report = Report::start(progress, "repack_ms lengths");
-    let bytes = random(1, 65_536 + 9);
+    let bytes = random(1, LONGEST);
     each(blocks().into_iter(), |block| {
         for repacked in lengths(block) {
-            for channels in [0, 1, 2, 3, 5, 255] {
+            for channels in CHANNELS {
                 let block = &bytes[..block];
                 compare(&report, "random", channels, block, repacked, oracle);
             }

@@ -5,7 +5,7 @@ use crate::ms::block::ours;
 use crate::ms::numbers::STRICT;
 
 /// A channel number, the lengths of the block and of the second buffer, and the number that answers them.
-const LENGTHS: [(u8, usize, usize, u8); 20] = [
+const LENGTHS: [(u8, usize, usize, u8); 42] = [
     (1, 0, 0, 2),
     (1, 3, 3, 2),
     (1, 4, 4, 0),
@@ -23,9 +23,32 @@ const LENGTHS: [(u8, usize, usize, u8); 20] = [
     (2, 65_528, 65_528, 0),
     (2, 65_535, 65_535, 2),
     (2, 65_536, 65_536, 2),
+    (3, 12, 12, 0),
+    (3, 12, 24, 2),
+    // a length of two channels is none of three
+    (3, 16, 16, 2),
+    (3, 65_532, 65_532, 0),
+    (3, 65_535, 65_535, 2),
+    (4, 16, 16, 0),
+    (4, 24, 24, 2),
+    (4, 65_520, 65_520, 0),
+    (5, 20, 20, 0),
+    (5, 24, 24, 2),
+    (5, 65_520, 65_520, 0),
+    (6, 24, 24, 0),
+    (6, 36, 36, 2),
+    (6, 65_520, 65_520, 0),
+    (7, 28, 28, 0),
+    (7, 32, 32, 2),
+    (7, 65_520, 65_520, 0),
+    (8, 16, 16, 2),
+    (8, 32, 32, 0),
+    (8, 64, 32, 2),
+    (8, 65_504, 65_504, 0),
+    (8, 65_536, 65_536, 2),
     // the channel number is looked at first
     (0, 4, 4, 1),
-    (3, 0, 0, 1),
+    (9, 0, 0, 1),
     (255, 65_536, 1, 1),
 ];
 

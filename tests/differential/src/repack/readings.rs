@@ -3,6 +3,7 @@
 use super::both::{oracle, Repack, ROOM};
 use super::lengths::lengths;
 use crate::ms::block::ours;
+use crate::ms::lengths::CHANNELS;
 use crate::ms::readings::{each_block, each_length, head, REFUSED};
 use crate::ms::strict::refuses;
 use crate::outcome::Outcome;
@@ -15,7 +16,7 @@ pub fn reports(progress: bool) -> [Report; 2] {
     let refusals = Report::start(progress, "repack_ms refusals");
     each_length(|block| {
         for len in lengths(block.len()) {
-            for channels in [0, 1, 2, 3, 5, 255] {
+            for channels in CHANNELS {
                 repack(&refusals, channels, block, len);
             }
         }
