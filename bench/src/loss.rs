@@ -43,7 +43,7 @@ fn content(name: &'static str, len: usize, before: &[i16], after: &[i16]) -> Con
 
 fn coded(samples: &[i16]) -> Vec<i16> {
     let mut after = samples.to_vec();
-    let mut states = [(0, 0); 2];
+    let mut states = [(0, 0); 8];
     for run in after.chunks_exact_mut(BLOCK) {
         let mut block = [0; 1024];
         encode(1, run, &mut states, &mut block);

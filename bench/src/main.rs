@@ -118,15 +118,15 @@ fn calls(of_ima4: &[Row], of_ms: &[Row], of_loss: &[Row]) {
     );
     let shown = |row: &&Row| ima4::SHOWN.contains(&row.number);
     table("samples", of_ima4.iter().filter(shown).collect());
+    let [one, two, six, eight] = [1, 2, 6, 8].map(|channels| ms::USUAL.blocks(channels));
     println!(
-        "Nanoseconds a sample, the best of {runs} runs over {} blocks of one channel, or {} of two.",
-        ms::USUAL.blocks,
-        ms::USUAL.blocks / 2
+        "Nanoseconds a sample, the best of {runs} runs over {one} blocks of one channel, {two} of two, {six} of six,"
     );
+    println!("or {eight} of eight. For six and eight the Rust has no call: it codes one channel at a time, cut out");
+    println!("into a block of its own, and what comes back is woven.");
+    let [one, two] = [1, 2].map(|channels| ms::ONE_GROUP.blocks(channels));
     println!(
-        "Blocks of one group have eight bytes for each channel; of these there are {}, or {}.",
-        ms::ONE_GROUP.blocks,
-        ms::ONE_GROUP.blocks / 2
+        "Blocks of one group have eight bytes for each channel; of these there are {one}, or {two}."
     );
     table("samples", of_ms.iter().collect());
     println!(

@@ -1,5 +1,6 @@
 //! MS blocks of the usual lengths, 1,024 bytes for each channel, and of one group, 8 bytes for each. There is
-//! one a call, and both sides are true calls.
+//! one a call, and both sides are true calls. For more than two channels the Rust has no call: there it is asked
+//! for one channel at a time, and its time is that with cutting them out and weaving what comes back.
 
 use crate::ffi;
 use crate::growth;
@@ -13,9 +14,15 @@ pub struct Size {
     /// Of a block, for each channel.
     bytes: usize,
     samples: usize,
-    /// So many blocks of one channel are timed together, or half as many of two. No two have the same
-    /// samples.
-    pub blocks: usize,
+    /// So many blocks of one channel are timed together. No two have the same samples.
+    blocks: usize,
+}
+
+impl Size {
+    /// So many of more channels, which have about as many samples.
+    pub fn blocks(&self, channels: u8) -> usize {
+        self.blocks / usize::from(channels)
+    }
 }
 
 pub const USUAL: Size = Size {
@@ -40,33 +47,30 @@ pub struct Content {
 
 /// The noise is at full scale: most steps are large, and many samples are clipped.
 pub fn contents() -> Vec<Content> {
-    let contents = [
-        both("speech", USUAL, speech),
-        both("noise", USUAL, noise),
-        both("speech, one group", ONE_GROUP, speech),
-    ];
-    contents.into_iter().flatten().collect()
-}
-
-/// Of one channel, and of two.
-fn both(name: &'static str, size: Size, of: fn(u64, usize) -> Vec<i16>) -> [Content; 2] {
-    let (all, half) = (size.blocks * size.samples, size.blocks / 2 * size.samples);
-    [
-        content(name, size, 1, of(1, all)),
-        content(name, size, 2, interleaved(&of(1, half), &of(2, half))),
-    ]
+    let usual = [1, 2, 6, 8].map(|channels| content("speech", USUAL, channels, speech));
+    let loud = [1, 2].map(|channels| content("noise", USUAL, channels, noise));
+    let short = [1, 2].map(|channels| content("speech, one group", ONE_GROUP, channels, speech));
+    usual.into_iter().chain(loud).chain(short).collect()
 }
 
 /// What grows has one channel, and a thousand blocks.
 pub fn growing() -> Content {
-    let samples = speech(1, growth::MOST * USUAL.samples);
-    content("speech", USUAL, 1, samples)
+    let blocks = growth::MOST;
+    content("speech", Size { blocks, ..USUAL }, 1, speech)
 }
 
-fn content(name: &'static str, size: Size, channels: u8, samples: Vec<i16>) -> Content {
+fn content(
+    name: &'static str,
+    size: Size,
+    channels: u8,
+    of: fn(u64, usize) -> Vec<i16>,
+) -> Content {
+    let frames = size.blocks(channels) * size.samples;
+    let samples: Vec<_> = (1..=channels.into()).map(|seed| of(seed, frames)).collect();
+    let samples = interleaved(&samples);
     let (to, from) = lengths(size, channels);
     let mut bytes = vec![0; samples.len() / from * to];
-    let mut states = [(0, 0); 2];
+    let mut states = [(0, 0); 8];
     for (samples, block) in samples.chunks_exact(from).zip(bytes.chunks_exact_mut(to)) {
         oracle::encode(channels, samples, &mut states, block);
     }
@@ -150,7 +154,7 @@ fn decode(blocks: Blocks) -> Row {
 
 /// Ours is lent two arrays, as over C, and the Rust its states.
 fn encode(blocks: Blocks) -> Row {
-    type State = ([i16; 2], [u8; 2], States);
+    type State = ([i16; 8], [u8; 8], States);
     let channels = blocks.channels;
     let (to, from) = lengths(blocks.size, channels);
     let round = round(
