@@ -47,7 +47,7 @@ pub fn decode_into(codec: Codec, coded: &Coded, samples: &mut [i16]) {
 pub fn encode_into(codec: Codec, samples: &[i16], coded: &mut Coded) {
     let Coded { bytes, block } = coded;
     let (most, each) = (together(codec), codec.samples(*block));
-    let (mut predictors, mut indices) = ([0; 2], [0; 2]);
+    let (mut predictors, mut indices) = ([0; 8], [0; 8]);
     let samples = &samples[..bytes.len() / *block * each];
     let runs = samples.chunks(most.saturating_mul(each));
     for (run, bytes) in runs.zip(bytes.chunks_mut(most.saturating_mul(*block))) {
