@@ -21,9 +21,9 @@ pub const MS_MOST_CHANNELS: usize = 8;
 /// assert_eq!([ms_samples(2, 8), ms_samples(2, 2048), ms_samples(6, 48)], [Some(2), Some(4082), Some(54)]);
 /// assert_eq!(ms_samples(1, MS_MOST_BYTES), Some(LOSS_MOST_SAMPLES));
 ///
-/// // no channels, nine of them, two thirds of a group, and a byte too many
-/// assert_eq!([ms_samples(0, 4), ms_samples(9, 36)], [None; 2]);
-/// assert_eq!([ms_samples(3, 20), ms_samples(1, MS_MOST_BYTES + 1)], [None; 2]);
+/// // no channels, nine of them, two thirds of a group, and too many bytes
+/// assert_eq!([ms_samples(0, 4), ms_samples(9, 36), ms_samples(3, 20)], [None; 3]);
+/// assert_eq!([ms_samples(1, MS_MOST_BYTES + 1), ms_samples(1, usize::MAX)], [None; 2]);
 ///
 /// const SAMPLES: Option<usize> = ms_samples(8, 64);
 /// assert_eq!(SAMPLES, Some(72));
