@@ -131,7 +131,7 @@ fn decode_ms(random: &mut Random) -> Outcome {
     Block::new(random).decoded("decode_adpcm_ima_ms", decode_adpcm_ima_ms)
 }
 
-/// An MS block, and how many samples there is room for.
+/// An MS block of one channel or two, and how many samples there is room for.
 pub struct Block {
     pub channels: usize,
     pub bytes: Vec<u8>,
@@ -142,8 +142,8 @@ pub struct Block {
 impl Block {
     /// A block at random, or what the encoder makes of samples, if it takes them.
     pub fn new(random: &mut Random) -> Block {
-        let (block_len, samples_len) = lengths(random);
         let channels = pick(random, &[1, 2]);
+        let (block_len, samples_len) = lengths(random, channels);
         let mut bytes = ms_bytes(random, channels, block_len);
         let content = pick(random, &["random", "encoded"]);
         if content == "encoded" {
@@ -174,18 +174,46 @@ impl Block {
     }
 }
 
-/// Most often one state or two, and numbers of them that look so to whoever counts with 8 bits.
 fn encode_ms(random: &mut Random) -> Outcome {
-    let (block_len, samples_len) = lengths(random);
-    let channels = pick(random, &[0, 1, 1, 1, 1, 2, 2, 2, 2, 3, 255, 256, 257, 258]);
-    let mut states = states(random, channels + 2);
-    let samples = samples(random, samples_len);
-    let encode = |out: &mut [_]| encode_adpcm_ima_ms(&samples, &mut states[1..=channels], out);
-    let (answer, all) = lent(block_len, encode);
-    let answer = told(&sized(channels, block_len), answer);
-    let given = format!("{block_len} bytes, {samples_len} samples");
-    let left = [plain(&all), plain(&samples), both(&states)].concat();
-    ("encode_adpcm_ima_ms", answer, given, left)
+    Samples::new(random).encoded("encode_adpcm_ima_ms", encode_adpcm_ima_ms)
+}
+
+/// Samples for an MS block, the states of its channels with two others, and how many bytes there is room for.
+pub struct Samples {
+    pub channels: usize,
+    samples: Vec<i16>,
+    states: Vec<AdpcmImaState>,
+    block_len: usize,
+}
+
+impl Samples {
+    /// Most often one to eight states, and numbers of them that look so to whoever counts with 8 bits.
+    pub fn new(random: &mut Random) -> Samples {
+        let others = pick(random, &[0, 9, 255, 256, 257, 258]);
+        let channels = pick(random, &[1, 2, 3, 4, 5, 6, 7, 8, others, others]);
+        let (block_len, samples_len) = lengths(random, channels);
+        Samples {
+            channels,
+            states: states(random, channels + 2),
+            samples: samples(random, samples_len),
+            block_len,
+        }
+    }
+
+    /// What a call that encodes them leaves.
+    pub fn encoded<E: Debug>(
+        &self,
+        call: Name,
+        encode: impl FnOnce(&[i16], &mut [AdpcmImaState], &mut [u8]) -> Result<(), E>,
+    ) -> Outcome {
+        let (samples, block_len, mut states) = (&self.samples, self.block_len, self.states.clone());
+        let encode = |out: &mut [_]| encode(samples, &mut states[1..=self.channels], out);
+        let (answer, all) = lent(block_len, encode);
+        let answer = told(&sized(self.channels, block_len), answer);
+        let given = format!("{block_len} bytes, {} samples", samples.len());
+        let left = [plain(&all), plain(samples), both(&states)].concat();
+        (call, answer, given, left)
+    }
 }
 
 /// What a call answers that refuses nothing.
@@ -216,14 +244,22 @@ pub fn lent<T: From<u8>, A>(len: usize, call: impl FnOnce(&mut [T]) -> A) -> (A,
     (call(&mut all[ROOM..ROOM + len]), all)
 }
 
-/// Lengths of an MS block about every boundary, the long ones seldom, and of these most often the longest of
-/// two channels and of one; and numbers of samples, that fit one channel or two more often than not.
-pub fn lengths(random: &mut Random) -> (usize, usize) {
+/// Lengths of an MS block about every boundary of so many channels, the long ones seldom, and of these most often
+/// the longest; and numbers of samples, that fit more often than not. Of a number of channels that no block has
+/// the low three bits count.
+pub fn lengths(random: &mut Random, channels: usize) -> (usize, usize) {
+    let channels = channels.wrapping_sub(1) % 8 + 1;
+    let group = 4 * channels;
+    let whole = if channels == 1 { 1 } else { group };
+    let longest = 65_535 / whole * whole;
     let about = 65_527 + below(random, 10);
-    let long = pick(random, &[65_528, 65_528, 65_535, about]);
-    let short = pick(random, &[0, 3, 4, 5, 7, 8, 12, 16, 24, 300]);
+    let long = pick(random, &[longest, longest, longest, longest + whole, about]);
+    let beside = pick(random, &[group - 1, group + 1, group + 4, 16, 24]);
+    let short = pick(random, &[0, group, group, 2 * group, 3 * group, 300, beside, beside]);
     let block = if below(random, 16) == 0 { long } else { short };
-    let fitting = (2 * block).saturating_sub(pick(random, &[7, 14]));
+    let other = pick(random, &[channels - 1, channels + 1]);
+    let channels = if below(random, 6) == 0 { other } else { channels };
+    let fitting = (2 * block).saturating_sub(7 * channels);
     let fewer = fitting.saturating_sub(pick(random, &[1, 2, fitting]));
     let more = fitting + pick(random, &[1, 2, 16, 65_536]);
     let samples = pick(random, &[fitting, fitting, fitting, fitting, fewer, more]);
@@ -245,24 +281,31 @@ fn samples_64(random: &mut Random) -> [i16; 64] {
 }
 
 fn states(random: &mut Random, len: usize) -> Vec<AdpcmImaState> {
-    let mut state = || AdpcmImaState {
+    let indices = indices(random, len);
+    let state = |step_index| AdpcmImaState {
         predictor: sample(random),
-        step_index: index(random),
+        step_index,
     };
-    (0..len).map(|_| state()).collect()
+    indices.into_iter().map(state).collect()
 }
 
 /// Every number, and those of the step table more often.
 pub fn index(random: &mut Random) -> u8 {
+    indices(random, 1)[0]
+}
+
+/// The same of several channels. Every second time all are of the step table.
+pub fn indices(random: &mut Random, len: usize) -> Vec<u8> {
     let most = pick(random, &[89, 256]);
-    below(random, most) as u8
+    (0..len).map(|_| below(random, most) as u8).collect()
 }
 
 /// Bytes at random, with such an index in the header of each channel.
 pub fn ms_bytes(random: &mut Random, channels: usize, len: usize) -> Vec<u8> {
     let mut bytes = bytes(random, len);
-    for header in bytes.chunks_exact_mut(4).take(channels) {
-        header[2] = index(random);
+    let headers = bytes.chunks_exact_mut(4);
+    for (header, index) in headers.zip(indices(random, channels)) {
+        header[2] = index;
     }
     bytes
 }

@@ -1,23 +1,37 @@
 //! The calls that the binding adds, but for those of an index (seek.rs). A run is held to the Rust's call
-//! for one block, with the state handed on; lenient decoding to its decoder; repacking to its decoder and
-//! then its encoder, and to the rule of strict reading; the loss report to a plain loop. What is refused
-//! leaves all as it was.
+//! for one block, with the state handed on; decoding of MS blocks to its decoder, of more than two channels for
+//! each by itself, and to the rule of strict reading; repacking to its decoder and then its encoder, and to that
+//! rule; the loss report to a plain loop. What is refused leaves all as it was.
 
-use crate::{oracle, plain, strict};
+use crate::{oracle, plain, strict, TAKEN};
 use audio_codec_algorithms::{decode_adpcm_ima_ima4, encode_adpcm_ima_ima4};
 use audio_codec_algorithms::{decode_adpcm_ima_ms, AdpcmImaState};
-use calls_rust::{below, bytes, index, lengths, lent, ms_bytes, pick, random, sample, samples};
-use calls_rust::{plain as numbers, signal::Random, sized, Block, Outcome};
-use sprettuhol::{decode_adpcm_ima_ima4_run, encode_adpcm_ima_ima4_run, repack_adpcm_ima_ms};
+use calls_rust::{below, bytes, index, indices, lengths, lent, ms_bytes, pick, random, sample};
+use calls_rust::{plain as numbers, samples, signal::Random, sized, Block, Outcome};
+use sprettuhol::{decode_adpcm_ima_ima4_run, encode_adpcm_ima_ima4_run};
+use sprettuhol::{decode_adpcm_ima_ms_channels, ms_samples, repack_adpcm_ima_ms};
 use sprettuhol::{lenient, loss_report, Loss, Refusal};
+use sprettuhol::{IMA4_BLOCK_BYTES, IMA4_BLOCK_SAMPLES, IMA4_MOST_BLOCKS};
+use sprettuhol::{LOSS_MOST_SAMPLES, MS_MOST_BYTES, MS_MOST_CHANNELS};
+
+const _: fn(u8, usize) -> Option<usize> = ms_samples;
+const _: () = {
+    let ima4: [usize; 3] = [IMA4_BLOCK_BYTES, IMA4_BLOCK_SAMPLES, IMA4_MOST_BLOCKS];
+    assert!(matches!(ima4, [34, 64, 1_024]));
+    let others: [usize; 3] = [MS_MOST_BYTES, MS_MOST_CHANNELS, LOSS_MOST_SAMPLES];
+    assert!(matches!(others, [65_535, 8, 131_063]));
+};
 
 /// What is expected, and what the binding did.
 pub type Both = (Outcome, Outcome);
 
-pub const CALLS: [fn(u64) -> Both; 6] = [
+pub const CALLS: [fn(u64) -> Both; 9] = [
     decode_run,
     encode_run,
     decode_lenient,
+    decode_channels,
+    decode_channels_lenient,
+    count_samples,
     repack,
     repack_lenient,
     loss,
@@ -28,15 +42,23 @@ pub const RUNS: [(&str, &str); 2] = [
     ("0 | 1 | 2 | 7 | 1024", "done"),
     ("1025 | unfitting", REFUSALS[2]),
 ];
-pub const REPACKINGS: [(&str, &str); 5] = [
-    ("1 | 1 long | 2 | 2 long", "done, same"),
-    ("1 | 1 long | 2 | 2 long", "done, changed"),
-    ("1 | 1 long | 2 | 2 long", REFUSALS[1]),
-    ("0 | 0 long | 3 | 3 long | 255 | 255 long", REFUSALS[0]),
-    ("1 | 1 long | 2 | 2 long", REFUSALS[4]),
+/// Lenient reading has all of these but the last.
+pub const DECODINGS: [(&str, &str); 4] = [
+    (TAKEN, "done"),
+    (TAKEN, REFUSALS[1]),
+    (OTHERS, REFUSALS[0]),
+    (TAKEN, REFUSALS[4]),
 ];
-/// Lenient reading has all but the last.
-pub const LENIENT: &[(&str, &str)] = REPACKINGS.split_at(4).0;
+pub const COUNTS: [(&str, &str); 3] = [(TAKEN, "done"), (TAKEN, "none"), (OTHERS, "none")];
+/// Lenient reading has all of these but the last.
+pub const REPACKINGS: [(&str, &str); 5] = [
+    (TAKEN, "done, same"),
+    (TAKEN, "done, changed"),
+    (TAKEN, REFUSALS[1]),
+    (OTHERS, REFUSALS[0]),
+    (TAKEN, REFUSALS[4]),
+];
+const OTHERS: &str = "0 | 0 long | 9 | 9 long | 255 | 255 long";
 pub const LOSSES: [(&str, &str); 3] = [
     ("equal", "done, same"),
     ("equal", "done, moved"),
@@ -45,7 +67,7 @@ pub const LOSSES: [(&str, &str); 3] = [
 
 /// Each refusal, its number and its text.
 pub const REFUSALS: [&str; 5] = [
-    "Channels 1, the channel number is not 1 or 2",
+    "Channels 1, the channel number is not 1 to 8",
     "Lengths 2, a length is not allowed, or two lengths do not fit each other",
     "Blocks 3, not 34 bytes and 64 samples a block, or over 1,024 blocks",
     "Index 5, not 1 to 64 blocks a state, an unfitting index, or no such block",
@@ -152,6 +174,88 @@ fn decode_lenient(seed: u64) -> Both {
     (expected, block.decoded(call, lenient::decode_adpcm_ima_ms))
 }
 
+/// A channel number, most often one that is taken; a block at random, or what the Rust's encoder makes of samples,
+/// if it takes them; and a number of samples, which fits more often than not.
+fn ms_block(random: &mut Random) -> (u8, Vec<u8>, usize) {
+    let others = pick(random, &[0, 9, 255]);
+    let channels = pick(random, &[1, 2, 3, 4, 5, 6, 7, 8, others]);
+    let (block_len, samples_len) = lengths(random, channels.into());
+    let mut block = ms_bytes(random, channels.into(), block_len);
+    if pick(random, &[true, false]) {
+        let mut states = [(0, 0); 8];
+        for ((_, lent), index) in states.iter_mut().zip(indices(random, 8)) {
+            *lent = index;
+        }
+        let samples = samples(random, oracle::fitting(channels, block_len));
+        oracle::encode(channels, &samples, &mut states, &mut block);
+    }
+    (channels, block, samples_len)
+}
+
+/// What the Rust refused, if it did, and what it left. But where `refused` says so, what the Rust takes is to be
+/// refused for its index.
+fn by_rust<T: From<u8>>(
+    len: usize,
+    refused: bool,
+    rust: impl FnOnce(&mut [T]) -> u8,
+) -> (Option<&'static str>, Vec<T>) {
+    match lent(len, rust) {
+        (0, _) if refused => (Some(REFUSALS[4]), lent(len, |_| ()).1),
+        (0, all) => (None, all),
+        (number, all) => (Some(REFUSALS[usize::from(number) - 1]), all),
+    }
+}
+
+type Decode = fn(u8, &[u8], &mut [i16]) -> Result<(), Refusal>;
+
+fn decode_channels(seed: u64) -> Both {
+    let call = "decode_adpcm_ima_ms_channels";
+    both_decodings(call, seed, strict::refuses, decode_adpcm_ima_ms_channels)
+}
+
+fn decode_channels_lenient(seed: u64) -> Both {
+    let call = "lenient::decode_adpcm_ima_ms_channels";
+    let binding = lenient::decode_adpcm_ima_ms_channels;
+    both_decodings(call, seed, |_, _| false, binding)
+}
+
+fn both_decodings(
+    call: &'static str,
+    seed: u64,
+    refuses: fn(u8, &[u8]) -> bool,
+    binding: Decode,
+) -> Both {
+    let (channels, block, len) = ms_block(&mut random(seed));
+    let outcome = |answer: &str, all: &[i16]| {
+        let answer = format!("{}: {answer}", sized(channels.into(), block.len()));
+        let given = format!("{} bytes, {len} samples", block.len());
+        let left = [numbers(all), numbers(&block)].concat();
+        (call, answer, given, left)
+    };
+
+    let refused = refuses(channels, &block);
+    let (answer, all) = by_rust(len, refused, |out| oracle::decode(channels, &block, out));
+    let expected = outcome(answer.unwrap_or("done"), &all);
+    let (answer, all) = lent(len, |out| binding(channels, &block, out));
+    (expected, outcome(&told(answer.map(|()| "done")), &all))
+}
+
+/// There is a number for what the Rust decodes, and none for what it refuses.
+fn count_samples(seed: u64) -> Both {
+    let (channels, block, _) = ms_block(&mut random(seed));
+    let outcome = |samples: Option<usize>| {
+        let answer = samples.map_or("none", |_| "done");
+        let answer = format!("{}: {answer}", sized(channels.into(), block.len()));
+        let given = format!("{} bytes, {samples:?} samples", block.len());
+        ("ms_samples", answer, given, vec![])
+    };
+
+    let mut samples = vec![0; oracle::fitting(channels, block.len())];
+    let taken = oracle::decode(channels, &block, &mut samples) == 0;
+    let expected = outcome(taken.then_some(samples.len()));
+    (expected, outcome(ms_samples(channels, block.len())))
+}
+
 type Repack = fn(u8, &[u8], &mut [u8]) -> Result<bool, Refusal>;
 
 fn repack(seed: u64) -> Both {
@@ -164,8 +268,6 @@ fn repack_lenient(seed: u64) -> Both {
     both_repackings(call, seed, |_, _| false, lenient::repack_adpcm_ima_ms)
 }
 
-/// A block at random, or what the Rust's encoder makes of samples, if it takes them. Where `refuses` says so,
-/// one that the Rust takes is to be refused for its index.
 fn both_repackings(
     call: &'static str,
     seed: u64,
@@ -173,33 +275,25 @@ fn both_repackings(
     binding: Repack,
 ) -> Both {
     let random = &mut random(seed);
-    let (block_len, samples_len) = lengths(random);
-    let channels = pick(random, &[0, 1, 1, 1, 2, 2, 2, 3, 255]);
-    let mut block = ms_bytes(random, channels.into(), block_len);
-    if pick(random, &[true, false]) {
-        let mut states = [(0, index(random)), (0, index(random))];
-        let samples = samples(random, samples_len);
-        oracle::encode(channels, &samples, &mut states, &mut block);
-    }
+    let (channels, block, _) = ms_block(random);
+    let block_len = block.len();
     let off = pick(random, &[block_len + 1, block_len.saturating_sub(1), 0]);
     let len = pick(random, &[block_len, block_len, block_len, off]);
     let says = |changed| ["done, same", "done, changed"][usize::from(changed)];
-    let outcome = |answer: &str, all: Vec<u8>| {
+    let outcome = |answer: &str, all: &[u8]| {
         let answer = format!("{}: {answer}", sized(channels.into(), block_len));
         let given = format!("{block_len} bytes to {len}");
-        let left = [numbers(&all), numbers(&block)].concat();
+        let left = [numbers(all), numbers(&block)].concat();
         (call, answer, given, left)
     };
 
     let mut changed = 0;
-    let by_rust = |out: &mut [_]| oracle::repack(&mut vec![], channels, &block, &mut changed, out);
-    let expected = match lent(len, by_rust) {
-        (0, _) if refuses(channels, &block) => outcome(REFUSALS[4], lent(len, |_| ()).1),
-        (0, all) => outcome(says(changed == 1), all),
-        (number, all) => outcome(REFUSALS[usize::from(number) - 1], all),
-    };
+    let (answer, all) = by_rust(len, refuses(channels, &block), |out| {
+        oracle::repack(&mut vec![], channels, &block, &mut changed, out)
+    });
+    let expected = outcome(answer.unwrap_or(says(changed == 1)), &all);
     let (answer, all) = lent(len, |out| binding(channels, &block, out));
-    (expected, outcome(&told(answer.map(says)), all))
+    (expected, outcome(&told(answer.map(says)), &all))
 }
 
 /// The same samples again, or one of them moved, or others, or of another length.

@@ -12,7 +12,8 @@ mod seek;
 #[path = "../../differential/src/ms/strict.rs"]
 mod strict;
 
-use calls_rust::{random, Block, Outcome, KINDS};
+use audio_codec_algorithms::AdpcmImaState;
+use calls_rust::{random, Block, Outcome, Samples, KINDS};
 use sprettuhol::Error;
 use std::collections::{BTreeMap, BTreeSet};
 use std::process::ExitCode;
@@ -47,8 +48,17 @@ const ANSWERS: [(&str, Answers); KINDS + beyond::CALLS.len() + seek::CALLS.len()
         "lenient::decode_adpcm_ima_ms",
         &[(BLOCKS, DONE), (BLOCKS, SIZE)],
     ),
+    ("decode_adpcm_ima_ms_channels", &beyond::DECODINGS),
+    (
+        "lenient::decode_adpcm_ima_ms_channels",
+        all_but_last(&beyond::DECODINGS),
+    ),
+    ("ms_samples", &beyond::COUNTS),
     ("repack_adpcm_ima_ms", &beyond::REPACKINGS),
-    ("lenient::repack_adpcm_ima_ms", beyond::LENIENT),
+    (
+        "lenient::repack_adpcm_ima_ms",
+        all_but_last(&beyond::REPACKINGS),
+    ),
     ("loss_report", &beyond::LOSSES),
     ("index_adpcm_ima_ima4", &seek::INDEXED),
     ("reindex_adpcm_ima_ima4", &seek::REINDEXED),
@@ -58,11 +68,16 @@ type Answers = &'static [(&'static str, &'static str)];
 const DONE: &str = "done";
 const SIZE: &str = "InvalidBufferSize";
 /// Channel numbers, of short blocks and of long ones.
-const TAKEN: &str = "1 | 1 long | 2 | 2 long";
+const TAKEN: &str = "1 | 1 long | 2 | 2 long | 3 | 3 long | 4 | 4 long | \
+    5 | 5 long | 6 | 6 long | 7 | 7 long | 8 | 8 long";
 const BLOCKS: &str = "1 random | 1 long random | 2 random | 2 long random | \
     1 encoded | 1 long encoded | 2 encoded | 2 long encoded";
-const OTHERS: &str = "0 | 0 long | 3 | 3 long | 255 | 255 long | 256 | 256 long | \
+const OTHERS: &str = "0 | 0 long | 9 | 9 long | 255 | 255 long | 256 | 256 long | \
     257 | 257 long | 258 | 258 long";
+
+const fn all_but_last(answers: Answers) -> Answers {
+    answers.split_at(answers.len() - 1).0
+}
 
 /// How often there was each answer to a call, and how often the two sides differed.
 #[derive(Default)]
@@ -86,18 +101,44 @@ fn main() -> ExitCode {
     ExitCode::FAILURE
 }
 
-/// The binding is to do what the Rust does. But where the Rust decodes an MS block with an index above 88 in a
-/// header, the binding is to refuse it, and to leave the samples as they were.
+/// The binding is to do what the Rust does, but in two cases. Where the Rust decodes an MS block with an index
+/// above 88 in a header, the binding is to refuse it, and to leave the samples as they were. Where the Rust
+/// refuses three to eight states, the binding is to encode each channel as the Rust encodes it alone.
 fn expected(kind: usize, seed: u64) -> Outcome {
     let rust = calls_rust::call(kind, seed);
-    if rust.0 != "decode_adpcm_ima_ms" || !rust.1.ends_with(DONE) {
-        return rust;
+    match rust.0 {
+        "decode_adpcm_ima_ms" if rust.1.ends_with(DONE) => {
+            let block = Block::new(&mut random(seed));
+            match strict::refuses(block.channels as u8, &block.bytes) {
+                true => block.decoded(rust.0, |_, _, _| Err(Error::InvalidStepIndex)),
+                false => rust,
+            }
+        }
+        "encode_adpcm_ima_ms" => {
+            let samples = Samples::new(&mut random(seed));
+            match samples.channels {
+                3..=8 => samples.encoded(rust.0, encode),
+                _ => rust,
+            }
+        }
+        _ => rust,
     }
-    let block = Block::new(&mut random(seed));
-    if strict::refuses(block.channels as u8, &block.bytes) {
-        return block.decoded(rust.0, |_, _, _| Err(Error::InvalidStepIndex));
+}
+
+/// By the oracle, of up to eight channels.
+fn encode(samples: &[i16], states: &mut [AdpcmImaState], out: &mut [u8]) -> Result<(), Error> {
+    let mut lent = [(0, 0); 8];
+    for (lent, state) in lent.iter_mut().zip(&*states) {
+        *lent = (state.predictor, state.step_index);
     }
-    rust
+    let number = oracle::encode(states.len() as u8, samples, &mut lent, out);
+    for (state, next) in states.iter_mut().zip(lent) {
+        (state.predictor, state.step_index) = next;
+    }
+    match number {
+        0 => Ok(()),
+        _ => Err(Error::InvalidBufferSize),
+    }
 }
 
 /// What is expected and what the binding did, for every seed.
@@ -137,7 +178,7 @@ fn holds((tally, (call, answers)): &(Tally, (&'static str, Answers))) -> bool {
     let compared: u64 = came.values().sum();
     let refused = compared - accepted;
     println!(
-        "{call:<29}{compared} compared: {accepted} accepted, {refused} refused; {differ} differ"
+        "{call:<38}{compared} compared: {accepted} accepted, {refused} refused; {differ} differ"
     );
     let came: BTreeSet<_> = came.keys().cloned().collect();
     let each = |&(all, answer): &(&'static str, &'static str)| {
