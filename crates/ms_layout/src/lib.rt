@@ -45,12 +45,18 @@ fn fits(c: usize, bytes: usize, samples: usize) -> bool
     }
 }
 
-// A block of one channel may end anywhere, and any other at the end of a group.
+// A block of one channel may end anywhere, and any other at the end of a group. The test of two channels is apart because it needs no division.
 fn may_end(c: usize, bytes: usize) -> bool
     requires { ⌜ (1 ≤ c) × (c ≤ most) ⌝ }
     ensures { λ r. ⌜ r ≡ (eqb c 1 || eqb (bytes % (4 * c)) 0) ⌝ }
 {
-    if c == 1 { true } else { bytes % (4 * c) == 0 }
+    if c == 1 {
+        return true;
+    }
+    if c == 2 {
+        return bytes % 8 == 0;
+    }
+    bytes % (4 * c) == 0
 }
 
 // As many samples as a block of so many bytes has; one of more than 65,536 is taken for one of that length, which is refused too.

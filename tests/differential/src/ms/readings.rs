@@ -67,6 +67,7 @@ pub fn head(block: &[u8]) -> &[u8] {
     &block[..block.len().min(32)]
 }
 
+/// Calls `work` on short blocks of one to eight channels, with every index in each channel.
 pub fn each_block(work: impl Fn(u8, &[u8]) + Sync) {
     let pool = bodies();
     each_pair(&pool, &work);
