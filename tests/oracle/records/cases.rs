@@ -53,11 +53,13 @@ impl Case {
 }
 
 /// `repack` has every case. `repack_lenient` has those that it answers in another way, and these.
-const ALIKE: [&str; 4] = [
+const ALIKE: [&str; 6] = [
     "example",
     "malformed_version_2_index_200",
-    "channels_3_index_200",
+    "channels_9_index_200",
     "length_stereo_12_index_200",
+    "length_3_channels_16_index_200",
+    "index_7_channels_31st_byte_200",
 ];
 
 /// Each program's folder is to be a new one.

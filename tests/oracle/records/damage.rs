@@ -2,6 +2,7 @@
 
 use crate::oracle::{encode, fitting};
 use crate::signal::{noise, speech, Random};
+use std::array;
 
 /// Makes one record after another.
 pub struct Records {
@@ -23,40 +24,59 @@ impl Records {
         record
     }
 
-    /// Well formed, of one channel or two, and of a length that is taken.
+    /// Well formed, of one to eight channels, and of a length that is taken.
     fn whole(&mut self) -> Vec<u8> {
-        let channels = 1 + self.below(2);
+        let channels = 1 + self.below(8);
+        // of one channel a group may be cut short anywhere
+        let least = 4 * channels;
+        let step = if channels == 1 { 1 } else { least };
         // the smallest and the largest come now and then
-        let most = [1, 16, 64, 600, 4_096][self.below(5)];
-        let len = match (channels, self.below(8)) {
-            (_, 0) => 4_096,
-            (1, _) => 4 + self.below(most.max(4) - 3),
-            _ => 8 + self.below(most.max(8) / 8) * 8,
+        let most = [1, 16, 64, 600, 4_096][self.below(5)].max(least);
+        let len = match self.below(8) {
+            0 => 4_096 / step * step,
+            _ => least + self.below((most - least) / step + 1) * step,
         };
-        let block = match self.below(4) {
+        let block = match self.below(5) {
             0 => self.bytes(len),
-            1 => self.clipped(len),
-            2 => self.encoded(channels as u8, len, speech),
+            1 => self.sound(channels, len),
+            2 => self.clipped(channels, len),
+            3 => self.encoded(channels as u8, len, speech),
             _ => self.encoded(channels as u8, len, noise),
         };
         record(channels as u8, &block)
     }
 
-    /// At an end of the scale to begin with, with the largest nibbles among others.
-    fn clipped(&mut self, len: usize) -> Vec<u8> {
+    /// Bytes at random, with few indices above 88.
+    fn sound(&mut self, channels: usize, len: usize) -> Vec<u8> {
         let mut block = self.bytes(len);
-        for byte in &mut block[4..] {
+        for header in block.chunks_exact_mut(4).take(channels) {
+            header[2] = self.index();
+        }
+        block
+    }
+
+    /// At an end of the scale to begin with, with the largest nibbles among others.
+    fn clipped(&mut self, channels: usize, len: usize) -> Vec<u8> {
+        let mut block = self.bytes(len);
+        let (headers, body) = block.split_at_mut(4 * channels);
+        for byte in body {
             *byte = [0x77, 0xff, 0x7f, 0xf7, *byte, 0x00][self.below(6)];
         }
-        block[..2].copy_from_slice(&[[0xff, 0x7f], [0x00, 0x80], [0xc0, 0x7f]][self.below(3)]);
-        block[2] = self.below(96) as u8;
-        block[3] = 0;
+        for header in headers.chunks_exact_mut(4) {
+            let [low, high] = [[0xff, 0x7f], [0x00, 0x80], [0xc0, 0x7f]][self.below(3)];
+            header.copy_from_slice(&[low, high, self.index(), 0]);
+        }
         block
+    }
+
+    /// Of 0 to 88, and seldom a little above.
+    fn index(&mut self) -> u8 {
+        self.below(91) as u8
     }
 
     fn encoded(&mut self, channels: u8, len: usize, of: fn(u64, usize) -> Vec<i16>) -> Vec<u8> {
         let samples = of(self.number().into(), fitting(channels, len));
-        let mut states = [(0, self.below(89) as u8), (0, self.below(96) as u8)];
+        let mut states = array::from_fn(|_| (0, self.index()));
         let mut block = vec![0; len];
         assert_eq!(encode(channels, &samples, &mut states, &mut block), 0);
         block
@@ -81,7 +101,7 @@ impl Records {
             6 => set(record, 1, |low| {
                 low.wrapping_add(byte % 2 * 2).wrapping_sub(1)
             }),
-            7 => set(record, 2 + place % 2, |_| byte % 4),
+            7 => set(record, 2 + place % 2, |_| byte % 12),
             // another length of the block, that the field tells of
             _ => {
                 record.truncate(place.max(4));

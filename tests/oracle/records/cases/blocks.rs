@@ -4,7 +4,8 @@
 use super::Case;
 use crate::damage::record;
 
-/// A name, the channel number, the block in hex, and the first line of the output.
+/// A name, the channel number, the block in hex, and the first line of the output. In a block the commas mean
+/// nothing, and 7x34120500 is these four bytes seven times.
 const BLOCKS: &str = "\
 # the scope's example
 example 1 F67F000007 changed 1 first 1 peak 1
@@ -53,10 +54,25 @@ peak_of_32768 1 44802D00FFFF95F7 changed 6 first 2 peak 32768
 peak_of_52113 1 00803E00FF77 changed 4 first 1 peak 52113
 peak_of_65494 1 008000007FFFFFFFFF776CE3 changed 11 first 2 peak 65494
 
-# the largest index that strict reading takes; and one channel, in which the seventh byte is no index
+# three channels and more, each with its own header, or all alike
+same_3_channels_12_bytes 3 01000200,03000400,05000600 same
+same_8_channels_32_bytes 8 01000200,03000400,05000600,07000800,09000A00,0B000C00,0D000E00,0F001000 same
+same_6_channels_48_bytes 6 6x34120500,6x319A0240 same
+bytes_6_channels_last_fourth 6 5x34120500,34120506 changed 0 first - peak 0
+# one of them clips, or all do
+moved_3_channels_last 3 2x34120500,F67F0000,2x319A0240,07000000 changed 1 first 5 peak 1
+moved_5_channels_third 5 2x34120500,F67F0000,2x34120500,2x319A0240,07000000,2x319A0240 changed 1 first 7 peak 1
+moved_8_channels_last 8 7x34120500,F67F0000,7x319A0240,07000000 changed 1 first 15 peak 1
+moved_8_channels_all 8 8xF67F0000,8x07000000 changed 8 first 8 peak 1
+peak_of_52113_4_channels 4 3x34120500,00803E00,3x319A0240,FF770000 changed 6 first 7 peak 52113
+
+# the largest index that strict reading takes; and bytes behind the headers, which are no index
 index_88 1 0000580019 same
 index_88_stereo 2 0000580000005800 same
+index_88_8_channels 8 8x00005800 same
 index_mono_seventh_byte_255 1 000000000000FF same
+index_3_channels_15th_byte_200 3 3x00002800,3x0000C800 same
+index_7_channels_31st_byte_200 7 7x00002800,7x0000C800 same
 ";
 
 /// The same, with an index above 88.
@@ -71,6 +87,11 @@ moved_index_200 1 4480C8099E changed 1 first 2 peak 3724
 index_89_left 2 0000590000005800 changed 0 first - peak 0
 index_89_right 2 0000580000005900 changed 0 first - peak 0
 index_255 1 0000FF00 changed 0 first - peak 0
+index_89_last_of_3 3 2x00005800,00005900 changed 0 first - peak 0
+index_89_first_of_8 8 00005900,7x00005800 changed 0 first - peak 0
+index_89_fifth_of_8 8 4x00005800,00005900,3x00005800 changed 0 first - peak 0
+index_89_last_of_8 8 7x00005800,00005900 changed 0 first - peak 0
+moved_index_200_last_of_3 3 2x00000000,4480C809,2x00000000,9E000000 changed 7 first 8 peak 3724
 ";
 
 pub fn all() -> Vec<Case> {
@@ -92,7 +113,15 @@ fn case(line: &'static str) -> Case {
     Case::new(name, record(channels, &bytes(block)), first)
 }
 
-fn bytes(hex: &str) -> Vec<u8> {
+fn bytes(block: &str) -> Vec<u8> {
+    let part = |part: &str| match part.split_once('x') {
+        Some((times, hex)) => digits(hex).repeat(times.parse().expect("a number")),
+        None => digits(part),
+    };
+    block.split(',').flat_map(part).collect()
+}
+
+fn digits(hex: &str) -> Vec<u8> {
     let pairs = hex.as_bytes().chunks(2);
     let text = pairs.map(|pair| std::str::from_utf8(pair).expect("digits are ASCII"));
     text.map(|pair| u8::from_str_radix(pair, 16).expect("two hex digits"))

@@ -6,7 +6,7 @@ use crate::oracle::{encode, fitting};
 use crate::signal::{noise, speech, Random};
 
 pub fn all() -> Vec<Case> {
-    let cases = [same(), one(), two(), high()];
+    let cases = [same(), one(), two(), more(), high()];
     cases.into_iter().flatten().collect()
 }
 
@@ -36,9 +36,49 @@ fn one() -> Vec<Case> {
 fn two() -> Vec<Case> {
     let of = |name, block: Vec<u8>, loss| Case::new(name, record(2, &block), changed(loss));
     vec![
-        of("moved_stereo_left_of_speech", highest(), [319, 114, 949]),
-        of("moved_stereo_last_of_largest", right(), [1, 8_177, 1]),
+        of(
+            "moved_stereo_left_of_speech",
+            highest(2, 0, 1_024),
+            [319, 114, 949],
+        ),
+        of("moved_stereo_last_of_largest", last(2), [1, 8_177, 1]),
     ]
+}
+
+/// Of three to eight channels: what stays, and what moves in the last of them.
+fn more() -> Vec<Case> {
+    let of_speech = [
+        [264, 23, 1_305],
+        [476, 107, 549],
+        [43, 104, 219],
+        [155, 23, 1_550],
+        [459, 132, 1_740],
+        [467, 135, 2_076],
+    ];
+    let of = |(channels, loss): (u8, [u16; 3])| {
+        let case = |first: &str, rest: &str, block: Vec<u8>, line: String| {
+            let name = format!("{first}_{channels}_channels_{rest}");
+            Case::new(name, record(channels, &block), line)
+        };
+        let (same, number) = ("same".to_string(), usize::from(channels));
+        let (usual, largest) = (256 * number, largest(channels));
+        let speech = encoded(channels, speech, 10, usual);
+        let noise = encoded(channels, noise, 44, largest);
+        let highest = highest(channels, number - 1, usual);
+        let end = fitting(channels, largest) as u16 - 1;
+        [
+            case("same", "speech", speech, same.clone()),
+            case("same", "largest", noise, same),
+            case("moved", "last_of_speech", highest, changed(loss)),
+            case(
+                "moved",
+                "last_of_largest",
+                last(channels),
+                changed([1, end, 1]),
+            ),
+        ]
+    };
+    (3..=8).zip(of_speech).flat_map(of).collect()
 }
 
 /// Random blocks that gave a number worth printing. All of them have an index above 88, so each comes twice:
@@ -64,6 +104,19 @@ fn high() -> Vec<Case> {
             random(3, 4_096),
             [5_369, 9, 45_650],
         ),
+        of(
+            "moved_3_channels_4080",
+            3,
+            random(3, 4_080),
+            [5_280, 5, 41_714],
+        ),
+        of("moved_6_channels_480", 6, random(6, 480), [623, 9, 34_039]),
+        of(
+            "moved_8_channels_largest",
+            8,
+            random(8, 4_096),
+            [5_192, 11, 39_683],
+        ),
     ];
     cases.into_iter().flatten().collect()
 }
@@ -80,25 +133,32 @@ fn late(bytes: usize) -> Vec<u8> {
     block
 }
 
-/// The same on the right of the largest block, and silence on the left.
-fn right() -> Vec<u8> {
-    let mut block = vec![0; 4_096];
-    block[4..6].copy_from_slice(&[0xf6, 0x7f]);
-    block[4_095] = 0x70;
+/// The same in the last channel of the largest block, and silence in the others.
+fn last(channels: u8) -> Vec<u8> {
+    let len = largest(channels);
+    let mut block = vec![0; len];
+    block[4 * usize::from(channels) - 4..][..2].copy_from_slice(&[0xf6, 0x7f]);
+    block[len - 1] = 0x70;
     block
 }
 
-/// Speech, of which the left starts from the upper end of the scale.
-fn highest() -> Vec<u8> {
-    let mut block = encoded(2, speech, 60, 1_024);
-    block[..2].copy_from_slice(&[0xff, 0x7f]);
+/// The length of the largest block of so many channels, two or more, that a record has room for.
+fn largest(channels: u8) -> usize {
+    let group = 4 * usize::from(channels);
+    4_096 / group * group
+}
+
+/// Speech, of which one channel starts from the upper end of the scale.
+fn highest(channels: u8, channel: usize, len: usize) -> Vec<u8> {
+    let mut block = encoded(channels, speech, 60, len);
+    block[4 * channel..][..2].copy_from_slice(&[0xff, 0x7f]);
     block
 }
 
 fn encoded(channels: u8, of: fn(u64, usize) -> Vec<i16>, index: u8, len: usize) -> Vec<u8> {
     let samples = of(1, fitting(channels, len));
     let mut block = vec![0; len];
-    let number = encode(channels, &samples, &mut [(0, index); 2], &mut block);
+    let number = encode(channels, &samples, &mut [(0, index); 8], &mut block);
     assert_eq!(number, 0, "a block of {len} bytes is taken");
     block
 }

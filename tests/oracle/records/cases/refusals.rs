@@ -29,7 +29,7 @@ fn short() -> Vec<Case> {
         malformed("malformed_length_2_no_channels", &[0, 2, 1]),
         malformed("malformed_one_byte_short", &EXAMPLE[..8]),
         malformed("malformed_largest_one_byte_short", &largest[..4_099]),
-        malformed("malformed_short_with_channels_3", &[0, 7, 1, 3, 0]),
+        malformed("malformed_short_with_channels_9", &[0, 7, 1, 9, 0]),
     ]
 }
 
@@ -77,7 +77,7 @@ fn extra() -> Vec<Case> {
             "malformed_largest_65536_bytes_more",
             &more(&largest, 65_536),
         ),
-        malformed("malformed_one_byte_more_channels_3", &[0, 2, 1, 3, 0]),
+        malformed("malformed_one_byte_more_channels_9", &[0, 2, 1, 9, 0]),
     ]
 }
 
@@ -88,13 +88,13 @@ fn versions() -> Vec<Case> {
         malformed("malformed_version_0", &of(0)),
         malformed("malformed_version_2", &of(2)),
         malformed("malformed_version_255", &of(255)),
-        malformed("malformed_version_2_channels_3", &[0, 6, 2, 3, 0, 0, 0, 0]),
+        malformed("malformed_version_2_channels_9", &[0, 6, 2, 9, 0, 0, 0, 0]),
         malformed("malformed_version_0_channels_0_no_block", &[0, 2, 0, 0]),
         malformed("malformed_version_2_mono_3_bytes", &[0, 5, 2, 1, 0, 0, 0]),
     ]
 }
 
-/// A channel number other than 1 or 2, which is looked at before the block's length.
+/// A channel number other than 1 to 8, which is looked at before the block's length.
 fn channels() -> Vec<Case> {
     let case = |name, channels, len| {
         let block = vec![0; len];
@@ -102,23 +102,29 @@ fn channels() -> Vec<Case> {
     };
     vec![
         case("channels_0", 0, 8),
-        case("channels_3", 3, 8),
-        case("channels_3_12_bytes", 3, 12),
-        // 1 and 2 to whoever looks at the low bits
-        case("channels_5", 5, 8),
+        // 1, 2 and 8 to whoever looks at the low bits
+        case("channels_9", 9, 8),
+        case("channels_10", 10, 8),
         case("channels_130", 130, 8),
+        case("channels_136", 136, 32),
+        case("channels_9_36_bytes", 9, 36),
+        case("channels_16", 16, 64),
         case("channels_255", 255, 8),
         case("channels_0_no_block", 0, 0),
-        case("channels_3_3_bytes", 3, 3),
+        case("channels_9_3_bytes", 9, 3),
         case("channels_255_largest", 255, 4_096),
     ]
 }
 
 /// A block of a length that is not taken.
 fn blocks() -> Vec<Case> {
-    let case = |name, channels, len| {
+    let case = |name: &str, channels, len| {
         let block = vec![0; len];
         Case::new(name, record(channels, &block), "refused 2")
+    };
+    let more = |channels: u8, len| {
+        let name = format!("length_{channels}_channels_{len}");
+        case(&name, channels, len)
     };
     vec![
         case("length_mono_0", 1, 0),
@@ -134,17 +140,40 @@ fn blocks() -> Vec<Case> {
         case("length_stereo_17", 2, 17),
         case("length_stereo_4092", 2, 4_092),
         case("length_stereo_4095", 2, 4_095),
+        more(3, 0),
+        more(3, 8),
+        more(3, 11),
+        more(3, 13),
+        more(3, 16),
+        more(3, 4_096),
+        more(4, 12),
+        more(4, 24),
+        more(5, 16),
+        more(5, 24),
+        more(5, 4_096),
+        more(6, 12),
+        more(6, 32),
+        more(6, 4_096),
+        more(7, 24),
+        more(7, 32),
+        more(7, 4_096),
+        more(8, 16),
+        more(8, 31),
+        more(8, 48),
+        more(8, 4_092),
     ]
 }
 
 /// With an index above 88 besides, at which strict reading looks last.
 fn indices() -> Vec<Case> {
-    let block = [0, 0, 200, 0, 0, 0, 200, 0, 0, 0, 200, 0];
-    let mut version_2 = record(1, &block);
+    let block = [0, 0, 200, 0].repeat(4);
+    let mut version_2 = record(1, &block[..12]);
     version_2[2] = 2;
+    let of = |name, channels, len, line| Case::new(name, record(channels, &block[..len]), line);
     vec![
         malformed("malformed_version_2_index_200", &version_2),
-        Case::new("channels_3_index_200", record(3, &block), "refused 1"),
-        Case::new("length_stereo_12_index_200", record(2, &block), "refused 2"),
+        of("channels_9_index_200", 9, 12, "refused 1"),
+        of("length_stereo_12_index_200", 2, 12, "refused 2"),
+        of("length_3_channels_16_index_200", 3, 16, "refused 2"),
     ]
 }
