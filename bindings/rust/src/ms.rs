@@ -112,7 +112,7 @@ pub fn decode_adpcm_ima_ms(
 /// | step index, 0 to 88 | `buf[2]` | `buf[2]`, `buf[6]` and so on, c of them |
 /// | `out_samples` | 2n-7 | 2n-7c |
 ///
-/// [`ms_samples`] counts them. An index above 88 has no step, so its block is refused.
+/// [`ms_samples`] counts the samples. An index above 88 has no step, so its block is refused.
 /// [`lenient::decode_adpcm_ima_ms_channels`] reads it as 88.
 ///
 /// The channels keep the order that they have in the block. Which channel is which speaker, the container
@@ -149,9 +149,9 @@ pub fn decode_adpcm_ima_ms(
 /// block[22] = 89;
 /// let refused = decode_adpcm_ima_ms_channels(6, &block, &mut samples);
 /// assert_eq!(refused, Err(Refusal::StepIndex));
-/// let refused = decode_adpcm_ima_ms_channels(6, &block[..40], &mut samples);
+/// let refused = decode_adpcm_ima_ms_channels(6, &block[..40], &mut samples[..38]);
 /// assert_eq!(refused, Err(Refusal::Lengths));
-/// let refused = decode_adpcm_ima_ms_channels(9, &block[..36], &mut samples);
+/// let refused = decode_adpcm_ima_ms_channels(9, &block[..36], &mut samples[..9]);
 /// assert_eq!(refused, Err(Refusal::Channels));
 /// assert_eq!(samples, [1; 54]);
 /// # Ok::<(), Refusal>(())
