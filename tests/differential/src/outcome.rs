@@ -8,7 +8,7 @@ use std::fmt::Debug;
 const ROOM: usize = 64;
 
 /// The number that was returned, the state, and the buffer with the room about it. The state is what the
-/// call has of it: one, two, or `()`.
+/// call has of it: one, eight, or `()`.
 #[derive(PartialEq)]
 pub struct Outcome<S, T> {
     number: u8,

@@ -1,6 +1,6 @@
 //! A channel of an MS block is its own. Its header and its bytes are changed to others: then the samples of all
-//! other channels are what they were, and its own are those of a block of one channel, cut out with its bytes
-//! alone.
+//! other channels are what they were, and its own are what the oracle makes of its bytes alone, cut out into a
+//! block of one channel.
 
 use super::block::oracle::{self, bytes_of, fitting, samples_of};
 use super::block::ours;
@@ -16,7 +16,7 @@ pub fn report(progress: bool) -> Report {
         for channels in 2..=8 {
             for groups in [0, 1, 2, 7, 40] {
                 let len = 4 * channels * (1 + groups);
-                let (block, other) = (random(2 * seed, len), random(2 * seed + 1, len));
+                let (block, other) = (random(seed, len), random(!seed, len));
                 for channel in 0..channels {
                     change(&report, channels, channel, &block, &other);
                 }

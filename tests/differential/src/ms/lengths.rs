@@ -13,10 +13,9 @@ use std::collections::BTreeSet;
 
 /// No block is longer.
 pub const LONGEST: usize = 65_536 + 32;
-/// Those that are taken, and some that are not: 9, 10 and 16 are 1, 2 and 8 to whoever looks at the low three
-/// bits, and 0 is 8.
+/// Those that are taken, and some that are not. 9 and 10 are 1 and 2 to whoever looks at the low three bits.
 pub const CHANNELS: [u8; 13] = [0, 1, 2, 3, 4, 5, 6, 7, 8, 9, 10, 16, 255];
-/// Of the first two channels. An index above the table stays as it was, too.
+/// Those of the first two channels, from which come the others. An index above the table stays as it was, too.
 const STATES: [[State; 2]; 2] = [
     [(-12345, 200), (i16::MAX, 255)],
     [(i16::MIN, 88), (12345, 0)],
@@ -47,8 +46,8 @@ pub fn taken() -> Vec<(u8, usize)> {
         let mut samples = vec![0; fitting(channels, block)];
         oracle::decode(channels, &vec![0; block], &mut samples) == 0
     };
-    let each = |block| (1..=8).map(move |channels| (channels, block));
-    let all = blocks().into_iter().flat_map(each);
+    let all = blocks().into_iter();
+    let all = all.flat_map(|block| (1..=8).map(move |channels| (channels, block)));
     all.filter(|&(channels, block)| takes(channels, block))
         .collect()
 }
@@ -71,7 +70,7 @@ pub fn blocks() -> BTreeSet<usize> {
 /// many, and what looks the same to whoever counts with 16 bits. A very short block goes with all short lengths.
 pub fn samples(channels: u8, block: usize) -> BTreeSet<usize> {
     let short = if block <= 40 { 0..=80 } else { 0..=0 };
-    // a number that is refused, as its low three bits are
+    // a number that is refused goes with the lengths of one that is taken
     let channels = channels.wrapping_sub(1) % 8 + 1;
     let blocks = [block, block % 65_536].into_iter();
     let fitting = blocks.flat_map(|block| {
