@@ -1,7 +1,7 @@
 //! The calls that the binding adds, but for those of an index (seek.rs). A run is held to the Rust's call
-//! for one block, with the state handed on; decoding of MS blocks to its decoder, of more than two channels for
-//! each by itself, and to the rule of strict reading; repacking to its decoder and then its encoder, and to that
-//! rule; the loss report to a plain loop. What is refused leaves all as it was.
+//! for one block, with the state handed on; decoding of MS blocks to its decoder, channel by channel where there
+//! are more than two, and to the rule of strict reading; repacking to its decoder and then its encoder, and to
+//! that rule; the loss report to a plain loop. What is refused leaves all as it was.
 
 use crate::{oracle, plain, strict, TAKEN};
 use audio_codec_algorithms::{decode_adpcm_ima_ima4, encode_adpcm_ima_ima4};
@@ -15,6 +15,7 @@ use sprettuhol::{IMA4_BLOCK_BYTES, IMA4_BLOCK_SAMPLES, IMA4_MOST_BLOCKS};
 use sprettuhol::{LOSS_MOST_SAMPLES, MS_MOST_BYTES, MS_MOST_CHANNELS};
 
 const _: fn(u8, usize) -> Option<usize> = ms_samples;
+// the constants have the type and the numbers of the macros in C
 const _: () = {
     let ima4: [usize; 3] = [IMA4_BLOCK_BYTES, IMA4_BLOCK_SAMPLES, IMA4_MOST_BLOCKS];
     assert!(matches!(ima4, [34, 64, 1_024]));
@@ -42,6 +43,7 @@ pub const RUNS: [(&str, &str); 2] = [
     ("0 | 1 | 2 | 7 | 1024", "done"),
     ("1025 | unfitting", REFUSALS[2]),
 ];
+const OTHERS: &str = "0 | 0 long | 9 | 9 long | 255 | 255 long";
 /// Lenient reading has all of these but the last.
 pub const DECODINGS: [(&str, &str); 4] = [
     (TAKEN, "done"),
@@ -58,7 +60,6 @@ pub const REPACKINGS: [(&str, &str); 5] = [
     (OTHERS, REFUSALS[0]),
     (TAKEN, REFUSALS[4]),
 ];
-const OTHERS: &str = "0 | 0 long | 9 | 9 long | 255 | 255 long";
 pub const LOSSES: [(&str, &str); 3] = [
     ("equal", "done, same"),
     ("equal", "done, moved"),
