@@ -12,11 +12,12 @@ most = 8
 abbrev pub channelled : ℕ → Bool
 channelled c = leb 1 c && leb c most
 
--- Block length n: of one channel 4 to 65,535; from two channels up the channel number times four, times one or more, up to 65,535.
+-- Block length n: 4c to 65,535, and from two channels up divisible by 4c.
 abbrev pub sized : ℕ → ℕ → Bool
 sized c n = leb (4 * c) n && leb n 65535 && (eqb c 1 || eqb (n % (4 * c)) 0)
 
--- The same from two channels up, by the groups behind the headers.
+-- From two channels up: block length is the channel number times four, times one or more, up to 65,535. The first of these are the headers, and `groups`
+-- are the others.
 pub record Grouped (c n : ℕ) : Type 0 where
   pub groups : ℕ
   pub whole : n ≡ c * 4 * (1 + groups)
