@@ -190,7 +190,7 @@ uint8_t spr_ima4_reindex(const uint8_t *bytes, size_t bytes_len, size_t from, ui
  * there is a header of four bytes: the predictor, low byte first, the index, and a byte that is ignored. Behind
  * all headers come the nibbles, four bytes of each channel in turn, the low half of a byte first. Samples are
  * interleaved: one of each channel in turn. The channels keep their order; which of them belongs to which
- * loudspeaker is for the file to say that has the block.
+ * loudspeaker is a matter of the file that has the block.
  *
  * Reads `block` and writes all of `samples`. Each channel starts from its header, whose predictor is the first
  * sample. No state goes in or comes back: a block decodes by itself.
