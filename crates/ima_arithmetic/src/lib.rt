@@ -1,5 +1,7 @@
 // The arithmetic of one nibble, as far as it takes all inputs: each function is a line or two of the definition.
+use num::clamp;
 use num::lesser_u32;
+use num::outside;
 ghost use mathlib.Core.Path.{_≡_};
 ghost use mathlib.Core.Bool.{cond};
 ghost use Prim.Native.Nat.{_*_, _%_, _≤_, _<_};
@@ -8,7 +10,7 @@ ghost use lib.IntN.{pos, negsuc, natAbs, _+ℤ_, _-ℤ_};
 ghost use lib.Signed.{mag};
 ghost use Rattle.num.specs.Clamp as Clamp;
 ghost use Rattle.ima_nibble.specs.Step as Step;
-ghost use Rattle.ima_nibble.specs.Step.{m, greedy};
+ghost use Rattle.ima_nibble.specs.Step.{m, sumOf, greedy, tallied};
 
 pub fn part(bit: u32, x: u32) -> u32
     ensures { λ r. ⌜ (r ≡ Step.part (eqb (bit % 2) 1) x) × (r ≤ x) ⌝ }
@@ -47,15 +49,41 @@ fn left(r: u32, x: u32) -> u32
     if r < x { r } else { r - x }
 }
 
-// The predictor goes no further than the room on that side, so its sum needs no clamp.
-pub fn towards(predictor: i16, negative: bool, d: u32) -> i16
-    ensures { λ r. ⌜ r ≡ Clamp.clamp (negsuc 32767) (pos 32767) (cond negative (predictor -ℤ pos d) (predictor +ℤ pos d)) ⌝ }
+// Where an exact sum comes to in 16 bits, and whether it is outside of them.
+pub struct Moved {
+    pub predictor: i16,
+    pub clips: bool,
+}
+
+pub fn hold(sum: i32) -> Moved
+    ensures { λ r. ⌜ (r .predictor ≡ Clamp.clamp (negsuc 32767) (pos 32767) sum) × (r .clips ≡ Clamp.outside (negsuc 32767) (pos 32767) sum) ⌝ }
 {
-    let by = lesser_u32(d, room(predictor, negative)) as i32;
+    let predictor = clamp(-32768, 32767, sum) as i16;
+    Moved {
+        predictor,
+        clips: outside(-32768, 32767, sum),
+    }
+}
+
+// The predictor goes no further than the room on that side, so its sum needs no clamp. One that would go further clips.
+pub fn towards(predictor: i16, negative: bool, d: u32) -> Moved
+    ensures { λ r. ⌜ (r .predictor ≡ Clamp.clamp (negsuc 32767) (pos 32767) (sumOf negative predictor d)) × (r .clips ≡ Clamp.outside (negsuc 32767) (pos 32767) (sumOf negative predictor d)) ⌝ }
+{
+    let room = room(predictor, negative);
+    let by = lesser_u32(d, room) as i32;
+    let clips = room < d;
     if negative {
-        (predictor as i32 - by) as i16
+        let lower = (predictor as i32 - by) as i16;
+        Moved {
+            predictor: lower,
+            clips,
+        }
     } else {
-        (predictor as i32 + by) as i16
+        let upper = (predictor as i32 + by) as i16;
+        Moved {
+            predictor: upper,
+            clips,
+        }
     }
 }
 
@@ -67,4 +95,11 @@ fn room(predictor: i16, negative: bool) -> u32
     } else {
         (32767 - predictor as i32) as u32
     }
+}
+
+// One more for a step that clips, as long as 32 bits have it.
+pub fn tally(count: u32, clips: bool) -> u32
+    ensures { λ r. ⌜ r ≡ tallied 4294967295 clips count ⌝ }
+{
+    count + lesser_u32(clips as u32, 4294967295 - count)
 }

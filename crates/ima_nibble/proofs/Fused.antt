@@ -8,8 +8,7 @@ use lib.IntN.{ℤ, pos, negsuc, _+ℤ_, _-ℤ_}
 use lib.Signed.{ltZ}
 use borrow.Author.Tests.{leb-true, leb-false, le-ltb, eq-eqb, ne-eqb}
 use borrow.Table.Steps.{cases}
-use Rattle.num.specs.Clamp.{clamp}
-use Rattle.ima_nibble.specs.Step.{bit, part, m, predicted, indexed, sign, takes, left, greedy}
+use Rattle.ima_nibble.specs.Step.{bit, part, m, sumOf, exactSum, indexed, sign, takes, left, greedy}
 use Rattle.ima_nibble.proofs.Counted.{reachedOf, none, all, counted}
 use Rattle.ima_nibble.proofs.Held.{hold}
 use Rattle.ima_nibble.proofs.Parts.{parts, taken, part-le}
@@ -41,9 +40,8 @@ module _ (s r : ℕ) where
     abbrev v : ℕ
     v = part is 8 + greedy s r
 
-    pub predicts : (lowest highest p : ℤ) → let d = m s (greedy s r) + s / 8 in clamp lowest highest (cond is (p -ℤ pos d) (p +ℤ pos d)) ≡ predicted lowest highest s p v
-    unfolding predicted
-    predicts lowest highest p =
+    pub sums : (p : ℤ) → sumOf is p (m s (greedy s r) + s / 8) ≡ exactSum s p v
+    sums p =
         let same : m s v ≡ m s (greedy s r) = taken s r is ∙ sym took in
         rw (same, parts s r is .1) refl
 

@@ -3,14 +3,15 @@ use mathlib.Core.Path.{_≡_, sym, ap, ap₂, _∙_}
 use mathlib.Core.Bool.{Bool, cond}
 use Prim.Native.Nat.{ℕ, zero, suc, _<_, min}
 use native.Mathlib.Omega.{arith}
-use lib.Dec.{T}
+use lib.Dec.{T, ltb}
 use lib.IntN.{ℤ, pos, negsuc, negℤ, natAbs, _+ℤ_, _-ℤ_, +ℤ-comm, negℤ-+ℤ}
 use lib.Signed.{nonNeg, pos-natAbs}
 use mir.Syntax.{w16}
 use mir.Val.{SFits}
 use Rattle.num.proofs.Signed.{sub-ge}
-use Rattle.num.specs.Clamp.{clamp}
-use Rattle.num.proofs.Shift.{put-on, signed, clamp-step}
+use Rattle.num.specs.Clamp.{clamp, outside}
+use Rattle.num.proofs.Shift.{put-on, signed, clamp-step, outside-step}
+use Rattle.ima_nibble.specs.Step.{sumOf}
 
 abbrev pub under : ℤ → ℕ
 under p = natAbs (p +ℤ pos 32768)
@@ -47,10 +48,16 @@ module _ (p : ℤ) (f : SFits w16 p) where
   highest-is = sym (put-on p (pos 32767)) ∙ ap (λ (z : ℤ). p +ℤ z) over-is
 
   -- a step to one side is held by the room there
-  pub step-is : (d : ℕ) (is : Bool) → clamp (negsuc 32767) (pos 32767) (cond is (p -ℤ pos d) (p +ℤ pos d)) ≡ p +ℤ signed is (min d (cond is (under p) (over p)))
+  pub step-is : (d : ℕ) (is : Bool) → clamp (negsuc 32767) (pos 32767) (sumOf is p d) ≡ p +ℤ signed is (min d (cond is (under p) (over p)))
   step-is d is =
-      ap₂ (λ (a b : ℤ). clamp a b (cond is (p -ℤ pos d) (p +ℤ pos d))) lowest-is highest-is
+      ap₂ (λ (a b : ℤ). clamp a b (sumOf is p d)) lowest-is highest-is
       ∙ clamp-step p (under p) (over p) d is
+
+  -- and is clipped if it is longer
+  pub clips-is : (d : ℕ) (is : Bool) → outside (negsuc 32767) (pos 32767) (sumOf is p d) ≡ ltb (cond is (under p) (over p)) d
+  clips-is d is =
+      ap₂ (λ (a b : ℤ). outside a b (sumOf is p d)) lowest-is highest-is
+      ∙ outside-step p (under p) (over p) d is
 
 pub under-lt : (p : ℤ) → SFits w16 p → under p < 65536
 under-lt (pos n) f = omega (arith, f .sfits)

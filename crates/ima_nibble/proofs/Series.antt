@@ -7,8 +7,8 @@ use native.Mathlib.Omega.{arith}
 use lib.IntN.{ℤ}
 use lib.ListN.{length}
 use Rattle.num.specs.Lists.{All}
-use Rattle.ima_nibble.specs.Step.{State, state, Limits, In, Good, lowered, stepAt, stepped, emitted}
-use Rattle.ima_nibble.specs.Series.{Done, done, after, Within, decoded, encoded, predictors, nibblesOf, packed}
+use Rattle.ima_nibble.specs.Step.{State, state, reloaded, Limits, In, Good, lowered, stepAt, stepped, emitted}
+use Rattle.ima_nibble.specs.Series.{Done, done, after, bare, Within, decoded, encoded, predictors, nibblesOf, packed}
 use Rattle.ima_nibble.proofs.Bounds.{nibble-lt, held}
 use Rattle.ima_nibble.proofs.Reach.{within, settles}
 
@@ -76,10 +76,23 @@ module _ (limits : Limits) (steps : List ℕ) where
   -- ---- an index above the last
 
   -- A step begins with lowering the index, so it does not matter whether that was done before.
-  pub decoded-lowered : (p : ℤ) (i : ℕ) (vs : List ℕ) → dec (state p (lowered limits i)) vs .written ≡ dec (state p i) vs .written
+  pub decoded-lowered : (st : State) (vs : List ℕ) → dec (reloaded st (st .predictor) (lowered limits (st .index))) vs .written ≡ dec st vs .written
   unfolding decoded stepped stepAt
-  decoded-lowered p i [] = refl
-  decoded-lowered p i (v ∷ vs) = let e : lowered limits (lowered limits i) ≡ lowered limits i = omega arith in rw e
+  decoded-lowered st [] = refl
+  decoded-lowered st (v ∷ vs) = let e : lowered limits (lowered limits (st .index)) ≡ lowered limits (st .index) = omega arith in rw e
+
+  -- ---- another count
+
+  -- The count moves no sample, no nibble, and neither of the other two numbers.
+  pub decoded-bare : (p : ℤ) (i n k : ℕ) (vs : List ℕ) → bare (dec (state p i n) vs) ≡ bare (dec (state p i k) vs)
+  unfolding decoded stepped stepAt
+  decoded-bare p i n k [] = refl
+  decoded-bare p i n k (v ∷ vs) = ap (after (stepped limits steps (state p i k) v .predictor ∷ [])) (decoded-bare _ _ _ _ vs)
+
+  pub encoded-bare : (p : ℤ) (i n k : ℕ) (xs : List ℤ) → bare (enc (state p i n) xs) ≡ bare (enc (state p i k) xs)
+  unfolding encoded stepped stepAt
+  encoded-bare p i n k [] = refl
+  encoded-bare p i n k (x ∷ xs) = ap (after (emitted limits steps (state p i k) x ∷ [])) (encoded-bare _ _ _ _ xs)
 
   -- ---- there and back
 

@@ -3,7 +3,7 @@ use mathlib.Core.List.{List, [], _∷_, _++_}
 use Prim.Native.Nat.{ℕ, _+_, _*_, _/_, _%_}
 use lib.IntN.{ℤ}
 use Rattle.num.specs.Lists.{All}
-use Rattle.ima_nibble.specs.Step.{State, Limits, In, stepped, emitted}
+use Rattle.ima_nibble.specs.Step.{State, uncounted, Limits, In, stepped, emitted}
 
 -- What is written, and the state that is handed back.
 pub record Done (Y : Type 0) : Type 0 where
@@ -16,6 +16,10 @@ done ys st = record { written = ys; end = st }
 -- The same behind what was written before.
 abbrev pub after : {Y : Type 0} → List Y → Done Y → Done Y
 after ys r = done (ys ++ r .written) (r .end)
+
+-- The same but for the count.
+abbrev pub bare : {Y : Type 0} → Done Y → Done Y
+bare r = done (r .written) (uncounted (r .end))
 
 -- Each nibble gives a sample, the new predictor.
 unfoldable pub decoded : Limits → List ℕ → State → List ℕ → Done ℤ

@@ -1,5 +1,5 @@
--- One nibble of IMA ADPCM, decoded and encoded. A state is a predictor and a step index.
--- All is given over a table of steps and the limits of the two numbers; `sixteen` has the limits of the 16-bit codec. Assumes nothing.
+-- One nibble of IMA ADPCM, decoded and encoded. A state is a predictor, a step index and a count of clipped steps.
+-- All is given over a table of steps and the limits of the three numbers; `sixteen` has the limits of the 16-bit codec. Assumes nothing.
 use mathlib.Core.Bool.{Bool, not, cond, _&&_}
 use mathlib.Core.List.{List}
 use Prim.Native.Nat.{ℕ, _+_, _-_, _*_, _/_, _%_, _≤_, min}
@@ -7,25 +7,39 @@ use lib.Dec.{ltb, leb, eqb}
 use lib.IntN.{ℤ, pos, negsuc, natAbs, _+ℤ_, _-ℤ_}
 use lib.ListN.{getD}
 use lib.Signed.{ltZ, leZ, _≤ℤ_}
-use Rattle.num.specs.Clamp.{clamp}
+use Rattle.num.specs.Clamp.{clamp, outside}
 
 pub record State : Type 0 where
   pub predictor : ℤ
   pub index : ℕ
+  pub clipped : ℕ
 
-abbrev pub state : ℤ → ℕ → State
-state p i = record { predictor = p; index = i }
+abbrev pub state : ℤ → ℕ → ℕ → State
+state p i n = record { predictor = p; index = i; clipped = n }
 
--- The predictor is held in lowest..highest, and the index in 0..last.
+-- A zero state has a count of 0.
+abbrev pub zeroState : State
+zeroState = state (pos 0) 0 0
+
+-- Two numbers in the place of the state's own. The count stays.
+abbrev pub reloaded : State → ℤ → ℕ → State
+reloaded st p i = state p i (st .clipped)
+
+-- The same two numbers, and a count that begins.
+abbrev pub uncounted : State → State
+uncounted st = state (st .predictor) (st .index) 0
+
+-- The predictor is held in lowest..highest, and the index in 0..last. The count stops at `full`; a codec that has none stops at 0.
 pub record Limits : Type 0 where
   pub lowest : ℤ
   pub highest : ℤ
   pub last : ℕ
+  pub full : ℕ
 
 abbrev pub sixteen : Limits
-sixteen = record { lowest = negsuc 32767; highest = pos 32767; last = 88 }
+sixteen = record { lowest = negsuc 32767; highest = pos 32767; last = 88; full = 4294967295 }
 
--- A number between the predictor's limits, and a state whose two numbers are held.
+-- A number between the predictor's limits, and a state whose predictor and index are held.
 pub record In (limits : Limits) (x : ℤ) : Type 0 where
   pub above : limits .lowest ≤ℤ x
   pub below : x ≤ℤ limits .highest
@@ -60,9 +74,20 @@ m s v = part (bit 4 v) s + part (bit 2 v) (s / 2) + part (bit 1 v) (s / 4)
 abbrev pub d : ℕ → ℕ → ℕ
 d s v = m s v + s / 8
 
--- Bit 8 subtracts d, otherwise d is added; the sum is clamped.
+-- Bit 8 subtracts d, otherwise d is added: the exact sum.
+abbrev pub sumOf : Bool → ℤ → ℕ → ℤ
+sumOf negative p d = cond negative (p -ℤ pos d) (p +ℤ pos d)
+
+abbrev pub exactSum : ℕ → ℤ → ℕ → ℤ
+exactSum s p v = sumOf (bit 8 v) p (d s v)
+
+-- The sum is clamped.
 unfoldable pub predicted : ℤ → ℤ → ℕ → ℤ → ℕ → ℤ
-predicted lowest highest s p v = clamp lowest highest (cond (bit 8 v) (p -ℤ pos (d s v)) (p +ℤ pos (d s v)))
+predicted lowest highest s p v = clamp lowest highest (exactSum s p v)
+
+-- A step whose exact sum is outside the range is clipped. Clipped steps are counted, and the count stops.
+abbrev pub tallied : ℕ → Bool → ℕ → ℕ
+tallied full clips n = min (n + part clips 1) full
 
 -- The index moves by -1 for magnitude (the nibble without bit 8) 0 to 3, by 2, 4, 6, 8 for magnitude 4 to 7,
 abbrev pub move : ℕ → ℤ
@@ -78,6 +103,7 @@ stepped limits steps st v =
     record {
       predictor = predicted (limits .lowest) (limits .highest) (stepAt limits steps st) (st .predictor) v;
       index = indexed (limits .last) (lowered limits (st .index)) v;
+      clipped = tallied (limits .full) (outside (limits .lowest) (limits .highest) (exactSum (stepAt limits steps st) (st .predictor) v)) (st .clipped);
     }
 
 -- ---- Encoding
@@ -131,4 +157,4 @@ reachable lowest highest s p v =
 
 -- The index of a state has eight bits. Of one below 256 nothing is lost.
 abbrev pub narrow : State → State
-narrow st = state (st .predictor) (st .index % 256)
+narrow st = reloaded st (st .predictor) (st .index % 256)

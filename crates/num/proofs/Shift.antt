@@ -1,7 +1,7 @@
 -- The order of two signed numbers and the limits of a third stay as they are when all move by the same amount, and the order turns round
 -- when all are negated, since a ≤ b says that b - a is not negative. Assumes nothing.
 use mathlib.Core.Path.{_≡_, refl, sym, ap, subst, _∙_}
-use mathlib.Core.Bool.{Bool, true, false, not, cond}
+use mathlib.Core.Bool.{Bool, true, false, not, cond, _||_}
 use Prim.Native.Nat.{ℕ, zero, suc, min}
 use native.Mathlib.Omega.{arith}
 use lib.Dec.{T, leb, ltb, leb·zero, leb·suc-zero, leb·suc-suc}
@@ -10,7 +10,7 @@ use lib.IntN.{+ℤ-assoc, +ℤ-comm, +ℤ-idr, negℤ-negℤ, negℤ-+ℤ, +ℤ-
 use lib.Signed.{ltZ, leZ, nonNeg, _≤ℤ_, ltZ-yes, ltZ-no, <ℤ-≤ℤ-trans, clashℤ, pos-natAbs}
 use borrow.Author.Tests.{lt-ltb, le-ltb, leb-true, leb-false, ltb-true, ltb-false}
 use borrow.Table.Steps.{cases}
-use Rattle.num.specs.Clamp.{clamp}
+use Rattle.num.specs.Clamp.{clamp, outside}
 
 -- the order by a difference
 lt-not : (a b : ℕ) → ltb a b ≡ not (leb b a)
@@ -96,3 +96,12 @@ clamp-step p a b n true =
     let z : ℕ → ℤ = λ k. negℤ (pos k) in
     rw (shift-clamp p (z a) (pos b) (z n), neg-lt (pos n) (pos a), not-below b n, lesser z n a)
 clamp-step p a b n false = rw (shift-clamp p (negℤ (pos a)) (pos b) (pos n), not-below n a, lesser pos n b)
+
+-- and it ends outside the limits if it is longer than that room
+pub outside-step : (p : ℤ) (a b n : ℕ) (is : Bool)
+    → outside (p -ℤ pos a) (p +ℤ pos b) (cond is (p -ℤ pos n) (p +ℤ pos n)) ≡ ltb (cond is a b) n
+unfolding outside
+outside-step p a b n true =
+    rw (shift-lt p (negℤ (pos n)) (negℤ (pos a)), neg-lt (pos n) (pos a), shift-lt p (pos b) (negℤ (pos n)), not-below b n)
+    (cases (ltb a n) (λ e. rw e) (λ e. rw e))
+outside-step p a b n false = rw (shift-lt p (pos n) (negℤ (pos a)), not-below n a, shift-lt p (pos b) (pos n))

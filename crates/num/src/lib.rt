@@ -56,3 +56,10 @@ pub fn clamp(lowest: i32, highest: i32, x: i32) -> i32
         x
     }
 }
+
+// Whether it is one of those that the clamp moves.
+pub fn outside(lowest: i32, highest: i32, x: i32) -> bool
+    ensures { λ r. ⌜ r ≡ Clamp.outside lowest highest x ⌝ }
+{
+    if x < lowest { true } else { highest < x }
+}

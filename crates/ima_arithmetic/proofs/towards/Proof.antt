@@ -1,19 +1,22 @@
--- `ima_arithmetic::towards` meets its contract: held by the room on its side, the sum is the clamped one, and fits 16 bits. Assumes nothing.
+-- `ima_arithmetic::towards` meets its contract: held by the room on its side, the sum is the clamped one, and fits 16 bits; a longer way than that clips.
+-- Assumes nothing.
 use mathlib.Core.Path.{_≡_, refl, sym, ap, ap₂, _∙_}
 use mathlib.Core.Bool.{Bool, true, false, cond}
 use Prim.Native.Nat.{ℕ, _≤_, _<_, min}
 use native.Mathlib.Omega.{arith}
+use lib.Dec.{ltb}
 use lib.IntN.{ℤ, pos, negsuc, _+ℤ_, _-ℤ_}
 use lib.Signed.{mag}
 use mir.Syntax.{w16, w32}
 use mir.Val.{SFits, toZ, ofZ}
 use mir.ValLaws.{toZ-ofZ, toZ-pos}
 use borrow.Author.Needs.{needs}
-use Rattle.num.specs.Clamp.{clamp}
+use Rattle.num.specs.Clamp.{clamp, outside}
 use Rattle.num.proofs.Shift.{signed}
 use Rattle.num.proofs.Signed.{widens, widened, narrows, narrowed}
 use Rattle.num.proofs.Within.{mag-clamp}
-use Rattle.ima_nibble.proofs.Room.{under, over, step-is}
+use Rattle.ima_nibble.specs.Step.{sumOf}
+use Rattle.ima_nibble.proofs.Room.{under, over, step-is, clips-is}
 use Rattle.ima_arithmetic.proofs.towards.Statement.{statement}
 use Rattle.ima_arithmetic.proofs.towards.Tie as tie
 
@@ -33,19 +36,26 @@ above p n is e = rw e refl
 
 -- what is aimed at
 abbrev goal : ℤ → Bool → ℕ → ℤ
-goal p is d = clamp (negsuc 32767) (pos 32767) (cond is (p -ℤ pos d) (p +ℤ pos d))
+goal p is d = clamp (negsuc 32767) (pos 32767) (sumOf is p d)
 
 small : (p : ℤ) (is : Bool) (d : ℕ) → mag (goal p is d) ≤ 32767
-small p is d = mag-clamp 32767 (cond is (p -ℤ pos d) (p +ℤ pos d))
+small p is d = mag-clamp 32767 (sumOf is p d)
+
+-- the room on that side
+room-is : (c : tie.After-room) → let a = c .before .args in c .room .result ≡ cond (a .negative) (under (a .predictor)) (over (a .predictor))
+room-is c = let a = c .before .args in c .room .ensures .0 ∙ ap (λ (p : ℤ). cond (a .negative) (under p) (over p)) (toZ-ofZ w16 _ (c .before .fits .predictor))
 
 -- how far it goes
 far : (c : tie.After-lesser-u32) → let a = c .before .before .args in (c .lesser-u32 .result ≡ min (a .d) (cond (a .negative) (under (a .predictor)) (over (a .predictor)))) × (c .lesser-u32 .result < 65536)
 far c =
     let a = c .before .before .args in
-    let f = c .before .before .fits .predictor in
-    let room = c .before .room .ensures in
-    let is = room .0 ∙ ap (λ (p : ℤ). cond (a .negative) (under p) (over p)) (toZ-ofZ w16 _ f) in
-    (c .lesser-u32 .ensures ∙ ap (min (a .d)) is, omega (arith, c .lesser-u32 .ensures, room .1))
+    (c .lesser-u32 .ensures ∙ ap (min (a .d)) (room-is (c .before)), omega (arith, c .lesser-u32 .ensures, c .before .room .ensures .1))
+
+-- and whether it would go further
+clips : (c : tie.After-lesser-u32) → let a = c .before .before .args in ltb (c .before .room .result) (a .d) ≡ outside (negsuc 32767) (pos 32767) (sumOf (a .negative) (a .predictor) (a .d))
+clips c =
+    let a = c .before .before .args in
+    ap (λ (n : ℕ). ltb n (a .d)) (room-is (c .before)) ∙ sym (clips-is (a .predictor) (c .before .before .fits .predictor) (a .d) (a .negative))
 
 -- the two sums
 abbrev lowered : tie.Then1 → ℤ
@@ -78,29 +88,29 @@ small-down c = let a = c .before .before .before .args in rw (down c) (small (a 
 small-up : (c : tie.Else1) → mag (raised c) ≤ 32767
 small-up c = let a = c .before .before .before .args in rw (up c) (small (a .predictor) (a .negative) (a .d))
 
-cast-result : tie.Need-cast-result
-cast-result c = widens _ (c .before .before .before .fits .predictor)
+cast-lower : tie.Need-cast-lower
+cast-lower c = widens _ (c .before .before .before .fits .predictor)
 
-sub-result : tie.Need-sub-result
-sub-result c = record { sfits = omega (arith, small-down c) }
+sub-lower : tie.Need-sub-lower
+sub-lower c = record { sfits = omega (arith, small-down c) }
 
-cast-result-2 : tie.Need-cast-result-2
-cast-result-2 c = narrows (lowered c) (small-down c)
+cast-lower-2 : tie.Need-cast-lower-2
+cast-lower-2 c = narrows (lowered c) (small-down c)
 
-cast-result-3 : tie.Need-cast-result-3
-cast-result-3 c = widens _ (c .before .before .before .fits .predictor)
+cast-upper : tie.Need-cast-upper
+cast-upper c = widens _ (c .before .before .before .fits .predictor)
 
-add-result : tie.Need-add-result
-add-result c = record { sfits = omega (arith, small-up c) }
+add-upper : tie.Need-add-upper
+add-upper c = record { sfits = omega (arith, small-up c) }
 
-cast-result-4 : tie.Need-cast-result-4
-cast-result-4 c = narrows (raised c) (small-up c)
+cast-upper-2 : tie.Need-cast-upper-2
+cast-upper-2 c = narrows (raised c) (small-up c)
 
 returns : tie.Need-returns
-returns c = narrowed (lowered c) (small-down c) ∙ down c
+returns c = (narrowed (lowered c) (small-down c) ∙ down c, clips (c .before))
 
 returns-2 : tie.Need-returns-2
-returns-2 c = narrowed (raised c) (small-up c) ∙ up c
+returns-2 c = (narrowed (raised c) (small-up c) ∙ up c, clips (c .before))
 
 pub towards-spec : {M : Type 1} → statement M
 towards-spec =
@@ -109,11 +119,11 @@ towards-spec =
     (λ c κs. search needs)
     (λ c κs. search needs)
     (λ c. search needs)
-    cast-result
-    sub-result
-    cast-result-2
-    cast-result-3
-    add-result
-    cast-result-4
+    cast-lower
+    sub-lower
+    cast-lower-2
+    cast-upper
+    add-upper
+    cast-upper-2
     returns
     returns-2)
