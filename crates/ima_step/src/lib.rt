@@ -3,12 +3,14 @@ mod nibble;
 
 use ima_arithmetic::difference;
 use ima_arithmetic::greedy_take;
+use ima_arithmetic::hold;
 use ima_arithmetic::sign;
 use ima_arithmetic::takes;
+use ima_arithmetic::tally;
 use ima_arithmetic::towards;
 use nibble::absolute;
+use nibble::exact_sum;
 use nibble::next_index;
-use nibble::predict;
 use nibble::raise_index;
 use nibble::reach_count;
 use nibble::step;
@@ -18,10 +20,12 @@ ghost use Prim.Native.Nat.{_<_};
 ghost use Rattle.ima_nibble.specs.Step.{sixteen, stepped, emitted};
 ghost use Rattle.ima_step.specs.View.{wideOf};
 
-// A predictor, and an index that needs no widening before it is a place in the table. Any index is taken: one above 88 is read as 88.
+// A predictor, an index that needs no widening before it is a place in the table, and the count of clipped steps. Any index is taken: one above 88 is
+// read as 88.
 pub struct Wide {
     pub predictor: i16,
     pub index: usize,
+    pub clipped: u32,
 }
 
 pub struct Coded {
@@ -36,10 +40,11 @@ impl Wide {
     {
         let place = lesser(self.index, 88);
         let s = step(steps, place);
-        let predictor = predict(s, self.predictor, nibble);
+        let moved = hold(exact_sum(s, self.predictor, nibble));
         Self {
-            predictor,
+            predictor: moved.predictor,
             index: next_index(place, nibble),
+            clipped: tally(self.clipped, moved.clips),
         }
     }
 
@@ -54,12 +59,13 @@ impl Wide {
         let above = reach_count(s, s, r);
         let four = takes(r, s);
         let nibble = sign(x) + reach_count(0, s, r) + four + above;
-        let predictor = towards(self.predictor, x < 0, greedy_take(s, r) + s / 8);
+        let moved = towards(self.predictor, x < 0, greedy_take(s, r) + s / 8);
         Coded {
             nibble,
             next: Self {
-                predictor,
+                predictor: moved.predictor,
                 index: raise_index(index, four, above),
+                clipped: tally(self.clipped, moved.clips),
             },
         }
     }

@@ -1,17 +1,16 @@
 // The arithmetic of one nibble from a step of the table and an index that is held.
 use ima_arithmetic::part;
 use ima_arithmetic::takes;
-use num::clamp;
 use num::lesser;
 use num::monus;
 ghost use mathlib.Core.Path.{_≡_};
 ghost use mathlib.Core.Bool.{cond};
 ghost use Prim.Native.Nat.{_+_, _-_, _*_, _/_, _≤_, _<_, min};
-ghost use lib.IntN.{pos, negsuc, negℤ, natAbs};
+ghost use lib.IntN.{pos, negℤ, natAbs};
 ghost use lib.ListN.{getD};
 ghost use lib.Signed.{mag};
 ghost use Rattle.ima_nibble.specs.Step as Step;
-ghost use Rattle.ima_nibble.specs.Step.{bit, d, indexed};
+ghost use Rattle.ima_nibble.specs.Step.{bit, d, exactSum, indexed};
 
 pub(crate) fn step(steps: &[u16; 89], index: usize) -> u32
     requires { ⌜ index ≤ 88 ⌝ }
@@ -27,12 +26,11 @@ fn extend(x: u16) -> u32
     x as u32
 }
 
-pub(crate) fn predict(s: u32, predictor: i16, nibble: u32) -> i16
+pub(crate) fn exact_sum(s: u32, predictor: i16, nibble: u32) -> i32
     requires { ⌜ s < 65536 ⌝ }
-    ensures { λ r. ⌜ r ≡ Step.predicted (negsuc 32767) (pos 32767) s predictor nibble ⌝ }
+    ensures { λ r. ⌜ r ≡ exactSum s predictor nibble ⌝ }
 {
-    let sum = predictor as i32 + change(s, nibble);
-    clamp(-32768, 32767, sum) as i16
+    predictor as i32 + change(s, nibble)
 }
 
 // Bit 8 subtracts, otherwise it is added.
