@@ -1,6 +1,6 @@
 -- The view of a state loses nothing, and `sameState` is equality. Assumes nothing.
-use mathlib.Core.Path.{_≡_, refl, ap, ap₂}
-use mathlib.Core.Bool.{true, false, false≢true, and-eq-true-iff}
+use mathlib.Core.Path.{_≡_, refl, ap, ap₂, _∙_}
+use mathlib.Core.Bool.{true, false, _&&_, false≢true, and-eq-true-iff}
 use mathlib.Core.Logic.{_↔_}
 use Prim.Native.Nat.{ℕ}
 use lib.Dec.{eqb}
@@ -11,11 +11,13 @@ use Rattle.ima_nibble.specs.Step.{State, state}
 use Rattle.adpcm_ima.specs.declared.AdpcmImaState.{AdpcmImaState}
 use Rattle.adpcm_ima.specs.View.{stateOf, sameZ, sameState}
 
-abbrev own : ℤ → ℕ → AdpcmImaState
-own p i = record { predictor = p; «step_index» = i }
+abbrev own : ℤ → ℕ → ℕ → AdpcmImaState
+own p i n = record { predictor = p; «step_index» = i; clipped = n }
 
 pub state-faithful : Faithful stateOf
-state-faithful s t e = ap₂ own (ap (λ st. st .predictor) e) (ap (λ st. st .index) e)
+state-faithful s t e =
+    ap₂ (λ (p : ℤ) (i : ℕ). own p i (s .clipped)) (ap (λ st. st .predictor) e) (ap (λ st. st .index) e)
+    ∙ ap (own (t .predictor) (t .«step_index»)) (ap (λ st. st .clipped) e)
 
 -- ---- equality, by field
 
@@ -33,7 +35,9 @@ sameZ-true (negsuc a) (negsuc b) t = ap negsuc (eqb-true a b t)
 pub same-is : (s t : State) → (sameState s t ≡ true) ↔ (s ≡ t)
 same-is s t = (
   λ e.
-      let (p, i) = and-eq-true-iff (sameZ (s .predictor) (t .predictor)) (eqb (s .index) (t .index)) .0 e in
-      ap₂ state (sameZ-true (s .predictor) (t .predictor) p) (eqb-true (s .index) (t .index) i),
-  λ e. rw e (rw (sameZ-itself (t .predictor)) (eq-eqb (t .index) (t .index) refl)),
+      let (two, n) = and-eq-true-iff (sameZ (s .predictor) (t .predictor) && eqb (s .index) (t .index)) (eqb (s .clipped) (t .clipped)) .0 e in
+      let (p, i) = and-eq-true-iff (sameZ (s .predictor) (t .predictor)) (eqb (s .index) (t .index)) .0 two in
+      ap₂ (λ (q : ℤ) (j : ℕ). state q j (s .clipped)) (sameZ-true (s .predictor) (t .predictor) p) (eqb-true (s .index) (t .index) i)
+      ∙ ap (state (t .predictor) (t .index)) (eqb-true (s .clipped) (t .clipped) n),
+  λ e. rw e (rw (sameZ-itself (t .predictor), eq-eqb (t .index) (t .index) refl) (eq-eqb (t .clipped) (t .clipped) refl)),
 )

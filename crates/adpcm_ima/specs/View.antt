@@ -1,4 +1,4 @@
--- A state of the code as one of the definitions. Assumes nothing.
+-- A state of the code as one of the definitions, the zero state, and equality. Assumes nothing.
 use mathlib.Core.Bool.{Bool, false, _&&_}
 use lib.Dec.{eqb}
 use lib.IntN.{ℤ, pos, negsuc}
@@ -6,7 +6,10 @@ use Rattle.adpcm_ima.specs.declared.AdpcmImaState.{AdpcmImaState}
 use Rattle.ima_nibble.specs.Step.{State}
 
 abbrev pub stateOf : AdpcmImaState → State
-stateOf s = record { predictor = s .predictor; index = s .«step_index» }
+stateOf s = record { predictor = s .predictor; index = s .«step_index»; clipped = s .clipped }
+
+abbrev pub zeroed : AdpcmImaState
+zeroed = record { predictor = pos 0; «step_index» = 0; clipped = 0 }
 
 -- Equality, by field.
 abbrev pub sameZ : ℤ → ℤ → Bool
@@ -16,4 +19,4 @@ sameZ (negsuc a) (pos b) = false
 sameZ (negsuc a) (negsuc b) = eqb a b
 
 abbrev pub sameState : State → State → Bool
-sameState s t = sameZ (s .predictor) (t .predictor) && eqb (s .index) (t .index)
+sameState s t = sameZ (s .predictor) (t .predictor) && eqb (s .index) (t .index) && eqb (s .clipped) (t .clipped)

@@ -6,8 +6,7 @@ pub use lent::decode_adpcm_ima;
 pub use lent::encode_adpcm_ima;
 ghost use mathlib.Core.Path.{_≡_};
 ghost use Prim.Native.Nat.{_<_};
-ghost use lib.IntN.{pos};
-ghost use Rattle.ima_nibble.specs.Step.{state, sixteen, stepped, emitted, narrow};
+ghost use Rattle.ima_nibble.specs.Step.{zeroState, reloaded, sixteen, stepped, emitted, narrow};
 ghost use Rattle.ima_nibble.specs.Table.{imaSteps};
 ghost use Rattle.ima_step.specs.View.{wideOf};
 ghost use Rattle.adpcm_ima.specs.View.{stateOf, sameState};
@@ -109,6 +108,7 @@ pub const IMA_STEP_TABLE: [u16; 89] = [
 pub struct AdpcmImaState {
     pub predictor: i16,
     pub step_index: u8,
+    pub clipped: u32,
 }
 
 pub struct Decoded {
@@ -124,21 +124,23 @@ pub struct Encoded {
 impl AdpcmImaState {
     // The zero state.
     pub fn new() -> Self
-        ensures { λ r. ⌜ (r .predictor ≡ pos 0) × (r .«step_index» ≡ 0) ⌝ }
+        ensures { λ r. ⌜ stateOf r ≡ zeroState ⌝ }
     {
         Self {
             predictor: 0,
             step_index: 0,
+            clipped: 0,
         }
     }
 
-    // The two numbers of a block's header in place of the state's own.
+    // The two numbers of a block's header in place of the state's own. The count stays.
     pub fn reload(self, predictor: i16, step_index: u8) -> Self
-        ensures { λ r. ⌜ stateOf r ≡ state predictor «step_index» ⌝ }
+        ensures { λ r. ⌜ stateOf r ≡ reloaded (stateOf self) predictor «step_index» ⌝ }
     {
         Self {
             predictor,
             step_index,
+            clipped: self.clipped,
         }
     }
 
@@ -146,8 +148,11 @@ impl AdpcmImaState {
     pub fn same(self, other: AdpcmImaState) -> bool
         ensures { λ r. ⌜ r ≡ sameState (stateOf self) (stateOf other) ⌝ }
     {
-        if self.predictor == other.predictor {
-            self.step_index == other.step_index
+        if self.predictor != other.predictor {
+            return false;
+        }
+        if self.step_index == other.step_index {
+            self.clipped == other.clipped
         } else {
             false
         }
@@ -160,6 +165,7 @@ impl AdpcmImaState {
         Wide {
             predictor: self.predictor,
             index: self.step_index as usize,
+            clipped: self.clipped,
         }
     }
 
@@ -170,6 +176,7 @@ impl AdpcmImaState {
         Self {
             predictor: wide.predictor,
             step_index: (wide.index % 256) as u8,
+            clipped: wide.clipped,
         }
     }
 

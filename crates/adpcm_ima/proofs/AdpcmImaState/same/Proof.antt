@@ -21,17 +21,35 @@ unequal (pos a) (negsuc b) n = refl
 unequal (negsuc a) (pos b) n = refl
 unequal (negsuc a) (negsuc b) n = ne-eqb a b (λ e. n (ap (λ k. ofZ w16 (negsuc k)) e))
 
+-- where the first test is passed
+alike : (c : tie.Else1) → let told = c .before .before .before in let s = told .before .before .args in sameZ (s .self .predictor) (s .other .predictor) ≡ true
+alike c =
+    let told = c .before .before .before in
+    let s = told .before .before .args in
+    let f : SFits w16 (s .self .predictor) = search (needs, told .struct-told) in
+    let g : SFits w16 (s .other .predictor) = search (needs, c .before .struct-told2) in
+    equal (s .self .predictor) (s .other .predictor) f g (c .if1 .left)
+
 returns : tie.Need-returns
 returns c =
-    let s = c .before .before .before .before .before .before .before .args in
-    let f : SFits w16 (s .self .predictor) = search needs in
-    let g : SFits w16 (s .other .predictor) = search needs in
-    rw (equal (s .self .predictor) (s .other .predictor) f g (c .before .before .if1 .taken)) refl
+    let told = c .before .before .before in
+    let s = told .before .before .args in
+    rw (unequal (s .self .predictor) (s .other .predictor) (c .if1 .taken)) refl
 
 returns-2 : tie.Need-returns-2
 returns-2 c =
-    let s = c .before .before .before .before .before .args in
-    rw (unequal (s .self .predictor) (s .other .predictor) (c .if1 .left)) refl
+    let at-index = c .before .before in
+    let first = at-index .before .before .before in
+    let told = first .before .before .before in
+    let s = told .before .before .args in
+    rw (alike first, eq-eqb (s .self .«step_index») (s .other .«step_index») (at-index .if2 .taken)) refl
+
+returns-3 : tie.Need-returns-3
+returns-3 c =
+    let first = c .before .before .before in
+    let told = first .before .before .before in
+    let s = told .before .before .args in
+    rw (alike first, ne-eqb (s .self .«step_index») (s .other .«step_index») (c .if2 .left)) refl
 
 pub same-spec : {M : Type 1} → statement M
-same-spec = tie.close (tie.spec returns returns-2)
+same-spec = tie.close (tie.spec returns returns-2 returns-3)
