@@ -37,7 +37,7 @@ near-above x r le h =
     rw (is-true (leZ (saturated (x -ℤ pos 127)) p) (clamp-under (h .above) (h .below) (x -ℤ pos 127) low .le))
     (is-true (leZ p (saturated (x +ℤ pos 127))) (clamp-over (h .above) (h .below) (x +ℤ pos 127) high .le))
 
-keeps-own : (st : State) → Good sixteen st → keeps st (headerState (headerBits st)) ≡ true
+keeps-own : (st : State) → Good sixteen st → keeps st (headerState st (headerBits st)) ≡ true
 keeps-own st h =
     let x = st .predictor in
     let e = dropped x (h .inside) in
@@ -54,6 +54,6 @@ kept st h =
     rw (whole, keeps-own st h)
 
 -- An incoming index above 88, as 200, always reloads.
-pub reloads : (own : State) (high low : ℕ) → 88 < own .index → startState own high low ≡ headerState (256 * high + low)
+pub reloads : (own : State) (high low : ℕ) → 88 < own .index → startState own high low ≡ headerState own (256 * high + low)
 unfolding startState
 reloads own high low h = rw (ne-eqb (own .index) (min ((256 * high + low) % 128) 88) (λ e. omega arith)) refl

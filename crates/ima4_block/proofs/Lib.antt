@@ -1,3 +1,4 @@
+pub mod Bare
 pub mod Cut
 pub mod Kept
 pub mod Lengths

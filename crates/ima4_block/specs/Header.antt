@@ -7,7 +7,7 @@ use lib.IntN.{ℤ, pos, _+ℤ_, _-ℤ_}
 use lib.Signed.{leZ}
 use Rattle.num.specs.Clamp.{clamp}
 use Rattle.halves.specs.Halves.{fromBits, bitsOf}
-use Rattle.ima_nibble.specs.Step.{State, state, sixteen, lowered}
+use Rattle.ima_nibble.specs.Step.{State, reloaded, sixteen, lowered}
 
 -- A block is 34 bytes: big-endian, nine top bits of the predictor, seven bits of index;
 abbrev pub headerBits : State → ℕ
@@ -16,9 +16,9 @@ headerBits st = 128 * (bitsOf (st .predictor) / 128) + st .index
 abbrev pub ima4Header : State → List ℕ
 ima4Header st = (headerBits st / 256) ∷ (headerBits st % 256) ∷ []
 
--- The decoder's header index is lowered to 88.
-abbrev pub headerState : ℕ → State
-headerState bits = state (fromBits (128 * (bits / 128))) (lowered sixteen (bits % 128))
+-- The decoder's header index is lowered to 88. A header has no count: the decoder keeps its own.
+abbrev pub headerState : State → ℕ → State
+headerState own bits = reloaded own (fromBits (128 * (bits / 128))) (lowered sixteen (bits % 128))
 
 -- Within 127 (both ends included, limits saturating).
 abbrev pub saturated : ℤ → ℤ
@@ -28,12 +28,13 @@ abbrev pub near : ℤ → ℤ → Bool
 near p h = leZ (saturated (h -ℤ pos 127)) p && leZ p (saturated (h +ℤ pos 127))
 
 -- It keeps its own state if its index, not lowered first, equals that number and its predictor is within 127 of the header's. Otherwise it reloads both.
+-- The count is not looked at.
 abbrev pub keeps : State → State → Bool
 keeps own head = eqb (own .index) (head .index) && near (own .predictor) (head .predictor)
 
 unfoldable pub startState : State → ℕ → ℕ → State
-startState own high low = let head = headerState (256 * high + low) in cond (keeps own head) own head
+startState own high low = let head = headerState own (256 * high + low) in cond (keeps own head) own head
 
 -- The encoder lowers its index before writing.
 abbrev pub loweredState : State → State
-loweredState st = state (st .predictor) (lowered sixteen (st .index))
+loweredState st = reloaded st (st .predictor) (lowered sixteen (st .index))

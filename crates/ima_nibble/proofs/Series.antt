@@ -7,13 +7,18 @@ use native.Mathlib.Omega.{arith}
 use lib.IntN.{ℤ}
 use lib.ListN.{length}
 use Rattle.num.specs.Lists.{All}
-use Rattle.ima_nibble.specs.Step.{State, state, reloaded, Limits, In, Good, lowered, stepAt, stepped, emitted}
+use Rattle.ima_nibble.specs.Step.{State, state, reloaded, uncounted, Limits, In, Good, lowered, stepAt, stepped, emitted}
 use Rattle.ima_nibble.specs.Series.{Done, done, after, bare, Within, decoded, encoded, predictors, nibblesOf, packed}
 use Rattle.ima_nibble.proofs.Bounds.{nibble-lt, held}
 use Rattle.ima_nibble.proofs.Reach.{within, settles}
 
 pub after-after : {Y : Type 0} (ys zs : List Y) (r : Done Y) → after ys (after zs r) ≡ after (ys ++ zs) r
 after-after ys zs r = ap (λ ws. done ws (r .end)) (sym (append-assoc ys zs (r .written)))
+
+-- What is the same for any count is the same for two states that are alike but for it.
+pub recounted : {X : Type 0} (f : State → X) → ((p : ℤ) (i n k : ℕ) → f (state p i n) ≡ f (state p i k)) → (st other : State) → uncounted st ≡ uncounted other → f st ≡ f other
+recounted f same st other e =
+    same (st .predictor) (st .index) (st .clipped) (other .clipped) ∙ ap (λ (s : State). f (reloaded other (s .predictor) (s .index))) e
 
 -- ---- nibbles in bytes
 

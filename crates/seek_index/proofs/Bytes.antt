@@ -1,13 +1,15 @@
 -- The bytes of states, and the states read back from a record. Assumes nothing.
 use mathlib.Core.Path.{_≡_, refl, sym, ap, _∙_}
 use mathlib.Core.List.{List, [], _∷_, _++_, append-nil}
-use Prim.Native.Nat.{ℕ, zero, suc, _+_, _-_, _*_, _≤_, _<_}
+use Prim.Native.Nat.{ℕ, zero, suc, _+_, _-_, _*_, _/_, _%_, _≤_, _<_}
 use native.Mathlib.Omega.{arith}
 use lib.ListN.{length, getD, set, take, drop, length-drop, drop-of-length-le}
 use lib.Seq.{drop-cons, drop-append-add, length-take-le}
 use borrow.Rule.Slice.PartMut.{putMid}
+use Rattle.num.specs.Lists.{from}
+use Rattle.halves.specs.Halves.{bitsOf}
 use Rattle.halves.proofs.Halves.{halves-back}
-use Rattle.ima_nibble.specs.Step.{State, state, sixteen, In}
+use Rattle.ima_nibble.specs.Step.{State, state, uncounted, sixteen, In}
 use Rattle.seek_index.specs.Record.{stateBytes, stateIn}
 
 pub bytes-length : (sts : List State) → length (stateBytes sts) ≡ 3 * length sts
@@ -26,15 +28,21 @@ bytes-drop zero sts = refl
 bytes-drop (suc i) [] = let e : 3 * suc i ≡ suc (suc (suc (3 * i))) = omega arith in rw e refl
 bytes-drop (suc i) (st ∷ sts) = let e : 3 * suc i ≡ suc (suc (suc (3 * i))) = omega arith in rw e (bytes-drop i sts)
 
--- A state of 16 bits comes back, its index as it was.
+-- They have nothing of a count.
+pub bytes-bare : (f : ℕ → State) (n i : ℕ) → stateBytes (from n i f) ≡ stateBytes (from n i (λ e. uncounted (f e)))
+unfolding from stateBytes
+bytes-bare f zero i = refl
+bytes-bare f (suc n) i = let st = f i in ap (λ (bs : List ℕ). (bitsOf (st .predictor) / 256) ∷ (bitsOf (st .predictor) % 256) ∷ st .index ∷ bs) (bytes-bare f n (suc i))
+
+-- A state of 16 bits comes back, its index as it was, without its count.
 pub state-back : (head : List ℕ) → length head ≡ 4 → (sts : List State) (i : ℕ) (d : State) → i < length sts → In sixteen (getD sts i d .predictor)
-    → stateIn (head ++ stateBytes sts) i ≡ getD sts i d
+    → stateIn (head ++ stateBytes sts) i ≡ uncounted (getD sts i d)
 unfolding stateBytes
 state-back head four sts i d h inside =
     let st = getD sts i d in
     let behind = ap (λ (n : ℕ). drop (n + 3 * i) (head ++ stateBytes sts)) (sym four) ∙ drop-append-add head (stateBytes sts) (3 * i) in
     let three = behind ∙ bytes-drop i sts ∙ ap stateBytes (drop-cons sts i d h) in
-    rw three (ap (λ p. state p (st .index)) (halves-back (st .predictor) (inside .above) (inside .below)))
+    rw three (ap (λ p. state p (st .index) 0) (halves-back (st .predictor) (inside .above) (inside .below)))
 
 -- the four bytes before the states are written
 pub first-four : (out : List ℕ) (a b c d : ℕ) → 4 ≤ length out → take 4 (set (set (set (set out 0 a) 1 b) 2 c) 3 d) ≡ a ∷ b ∷ c ∷ d ∷ []

@@ -6,7 +6,7 @@ use lib.Dec.{eqb, ltb, leb}
 use lib.IntN.{ℤ}
 use lib.ListN.{length, drop}
 use Rattle.num.specs.Outcome.{Outcome, outcomeBy}
-use Rattle.ima_nibble.specs.Step.{State}
+use Rattle.ima_nibble.specs.Step.{State, uncounted}
 use Rattle.ima_nibble.specs.Series.{Done}
 use Rattle.ima4_block.specs.Call.{decodedRun}
 use Rattle.seek_index.specs.Record.{stateBefore, restLength, seekIndex, versionIn, restIn, everyIn, reached, rebuilt}
@@ -49,9 +49,9 @@ indexIma4 st bytes k out =
     let n = length bytes / 34 in
     outcomeBy (indexRefusal (length bytes) k (length out)) (stateBefore st bytes n, seekIndex k n st bytes) (st, out)
 
--- Decoding from block j to the end, by way of an index.
+-- Decoding from block j to the end, by way of an index. The count begins at block j, whatever k is.
 abbrev pub decodedFrom : ℕ → List ℕ → List ℕ → ℕ → Done ℤ
-decodedFrom n index bytes j = decodedRun (n - j) (reached index bytes j j) (drop (34 * j) bytes)
+decodedFrom n index bytes j = decodedRun (n - j) (uncounted (reached index bytes j j)) (drop (34 * j) bytes)
 
 unfoldable pub decodeIma4From : State → List ℕ → List ℕ → ℕ → List ℤ → Outcome State (List ℤ)
 decodeIma4From given bytes index j out =

@@ -48,9 +48,9 @@ restIn index = getD index 0 0 * 256 + getD index 1 0
 abbrev pub everyIn : List ℕ → ℕ
 everyIn index = getD index 3 0
 
--- The i-th of its states, from 0: three bytes behind the four of the head, and three for each state before it.
+-- The i-th of its states, from 0: three bytes behind the four of the head, and three for each state before it. A count is not stored.
 abbrev pub stateIn : List ℕ → ℕ → State
-stateIn index i = let three = drop (4 + 3 * i) index in state (fromHalves (getD three 0 0) (getD three 1 0)) (getD three 2 0)
+stateIn index i = let three = drop (4 + 3 * i) index in state (fromHalves (getD three 0 0) (getD three 1 0)) (getD three 2 0) 0
 
 -- The kept state at or before block j is the j/k-th, which stands before block k(j/k). The state before that block or a later one, b, is reached from there.
 unfoldable pub reached : List ℕ → List ℕ → ℕ → ℕ → State
