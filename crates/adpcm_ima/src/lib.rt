@@ -6,7 +6,7 @@ pub use lent::decode_adpcm_ima;
 pub use lent::encode_adpcm_ima;
 ghost use mathlib.Core.Path.{_≡_};
 ghost use Prim.Native.Nat.{_<_};
-ghost use Rattle.ima_nibble.specs.Step.{zeroState, reloaded, sixteen, stepped, emitted, narrow};
+ghost use Rattle.ima_nibble.specs.Step.{zeroState, reloaded, uncounted, sixteen, stepped, emitted, narrow};
 ghost use Rattle.ima_nibble.specs.Table.{imaSteps};
 ghost use Rattle.ima_step.specs.View.{wideOf};
 ghost use Rattle.adpcm_ima.specs.View.{stateOf, sameState};
@@ -141,6 +141,17 @@ impl AdpcmImaState {
             predictor,
             step_index,
             clipped: self.clipped,
+        }
+    }
+
+    // The same two numbers, and a count that begins again.
+    pub fn recount(self) -> Self
+        ensures { λ r. ⌜ stateOf r ≡ uncounted (stateOf self) ⌝ }
+    {
+        Self {
+            predictor: self.predictor,
+            step_index: self.step_index,
+            clipped: 0,
         }
     }
 

@@ -25,7 +25,7 @@ zeroState = state (pos 0) 0 0
 abbrev pub reloaded : State → ℤ → ℕ → State
 reloaded st p i = state p i (st .clipped)
 
--- The same two numbers, and a count that begins.
+-- The same two numbers, and a count that begins again.
 abbrev pub uncounted : State → State
 uncounted st = state (st .predictor) (st .index) 0
 

@@ -12,10 +12,9 @@ use seek_call::index_refusal;
 use seek_call::place_refusal;
 ghost use mathlib.Core.Path.{_≡_};
 ghost use Prim.Native.Nat.{_+_, _-_, _*_, _/_, _≤_, _<_};
-ghost use lib.IntN.{pos};
 ghost use lib.ListN.{length, take};
 ghost use Rattle.num.specs.Outcome.{outcome};
-ghost use Rattle.ima_nibble.specs.Step.{state};
+ghost use Rattle.ima_nibble.specs.Step.{zeroState};
 ghost use Rattle.adpcm_ima.specs.View.{stateOf};
 ghost use Rattle.seek_index.specs.Call.{indexIma4, decodeIma4From, reindexIma4};
 ghost use Rattle.seek_index.specs.Private.{Room};
@@ -58,13 +57,14 @@ pub fn reindex_adpcm_ima_ima4(buf: &[u8], from: usize, index: &mut [u8]) -> u8
 }
 
 // Block `from` and all behind it to samples, from the kept state at or before it. The state behind the run comes back, and zeroes at a refusal.
+// Its count begins at block `from`, since an index has none.
 pub fn decode_adpcm_ima_ima4_from(
     buf: &[u8],
     index: &[u8],
     from: usize,
     out_samples: &mut [i16],
 ) -> Answer
-    ensures { λ r. ⌜ outcome (r .refusal) (stateOf (r .state)) (now («out_samples» .exit)) ≡ decodeIma4From (state (pos 0) 0) (now (buf .entry)) (now (index .entry)) from (now («out_samples» .entry)) ⌝ }
+    ensures { λ r. ⌜ outcome (r .refusal) (stateOf (r .state)) (now («out_samples» .exit)) ≡ decodeIma4From zeroState (now (buf .entry)) (now (index .entry)) from (now («out_samples» .entry)) ⌝ }
 {
     let number = from_refusal(buf.len(), index, from, out_samples.len());
     if number != 0 {
@@ -75,8 +75,9 @@ pub fn decode_adpcm_ima_ima4_from(
     }
     let every = index[3] as usize;
     let kept = from / every;
-    let state = state_behind(&buf[34 * (every * kept)..34 * from], state_in(index, kept));
-    decode_adpcm_ima_ima4_run(&buf[34 * from..], state, out_samples)
+    let behind = state_behind(&buf[34 * (every * kept)..34 * from], state_in(index, kept));
+    let start = behind.recount();
+    decode_adpcm_ima_ima4_run(&buf[34 * from..], start, out_samples)
 }
 
 // The four bytes before the states: the length of what stands behind the first two, the version, and k.
@@ -97,10 +98,10 @@ fn state_in(index: &[u8], i: usize) -> AdpcmImaState
     ensures { λ r. ⌜ stateOf r ≡ stateIn (now (index .entry)) i ⌝ }
 {
     let at = 4 + 3 * i;
-    AdpcmImaState {
-        predictor: from_halves(index[at], index[at + 1]),
-        step_index: index[at + 2],
-    }
+    AdpcmImaState::new().reload(
+        from_halves(index[at], index[at + 1]),
+        index[at + 2],
+    )
 }
 
 // The state behind whole blocks, each decoded to samples that nobody keeps.

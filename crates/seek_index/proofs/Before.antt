@@ -73,7 +73,7 @@ start-in : (own : State) (high low : ℕ) → In sixteen (own .predictor) → In
 unfolding startState
 start-in own high low h =
     let bits = 256 * high + low in
-    cases (keeps own (headerState bits)) (λ t. rw t h) (λ t. rw t (fits-in (headerState bits .predictor) (bits-fit (128 * (bits / 128)))))
+    cases (keeps own (headerState own bits)) (λ t. rw t h) (λ t. rw t (fits-in (headerState own bits .predictor) (bits-fit (128 * (bits / 128)))))
 
 pub before-in : (b : ℕ) (st : State) (bytes : List ℕ) → In sixteen (st .predictor) → In sixteen (stateBefore st bytes b .predictor)
 unfolding run decodedIma4Block

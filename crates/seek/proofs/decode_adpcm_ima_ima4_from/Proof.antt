@@ -8,7 +8,7 @@ use lib.Seq.{take-all}
 use borrow.Author.Needs.{needs}
 use borrow.Author.Tests.{ne-eqb}
 use Rattle.num.specs.Outcome.{outcome}
-use Rattle.ima_nibble.specs.Step.{State, state}
+use Rattle.ima_nibble.specs.Step.{State, uncounted}
 use Rattle.adpcm_ima.specs.View.{stateOf}
 use Rattle.ima4_block.specs.Call.{decodeIma4Run}
 use Rattle.ima4_block.proofs.Theorems.{decode-fits}
@@ -26,7 +26,11 @@ returns c =
     let a = s .before .before .before .args in
     let is = s .from-refusal .ensures in
     let number = fromRefusal (length (a .buf .now)) (a .index .now) (a .from) (length (a .out-samples .now)) in
-    rw (is, ne-eqb number 0 (λ e. c .before .if1 .taken (is ∙ e))) (ap (λ (st : State). outcome number st (a .out-samples .now)) (ap₂ state (c .new .ensures .0) (c .new .ensures .1)))
+    rw (is, ne-eqb number 0 (λ e. c .before .if1 .taken (is ∙ e))) (ap (λ (st : State). outcome number st (a .out-samples .now)) (c .new .ensures))
+
+-- the test, from behind the state
+abbrev test : tie.After-recount → tie.Else1
+test c = let behind = c .before in behind .before .before .before .before
 
 -- behind the test
 abbrev given : tie.Else1 → tie.Start
@@ -56,8 +60,9 @@ returns-2 : tie.Need-returns-2
 unfolding decodeIma4From reached
 returns-2 c =
     let decoded = c .before .decode-adpcm-ima-ima4-run in
-    let behind = c .before .before .before .before in
-    let s = behind .before .before .before .before in
+    let recounted = c .before .before .before .before in
+    let behind = recounted .before in
+    let s = test recounted in
     let a = given s .args in
     let bytes = a .buf .now in
     let j = a .from in
@@ -67,7 +72,8 @@ returns-2 c =
     let there : take (length bytes - 34 * j) (drop (34 * j) bytes) ≡ drop (34 * j) bytes = take-all (length bytes - 34 * j) (drop (34 * j) bytes) (omega (arith, length-drop (34 * j) bytes)) in
     let kept = behind .before .state-in .ensures in
     let part = by-part (stateOf (behind .before .state-in .result)) bytes (k * (j / k)) j (34 * (k * (j / k))) (34 * j) refl refl (before s .0) (omega (arith, whole, h)) in
-    let start = behind .state-behind .ensures ∙ part ∙ ap (λ (st : State). stateBefore st (drop (34 * (k * (j / k))) bytes) (j - k * (j / k))) kept in
+    let reaches = behind .state-behind .ensures ∙ part ∙ ap (λ (st : State). stateBefore st (drop (34 * (k * (j / k))) bytes) (j - k * (j / k))) kept in
+    let start = recounted .recount .ensures ∙ ap uncounted reaches in
     let rest : length (drop (34 * j) bytes) ≡ 34 * (n - j) = omega (arith, length-drop (34 * j) bytes, whole, h) in
     rw (taken s)
     (decoded .ensures
@@ -92,10 +98,11 @@ decode-adpcm-ima-ima4-from-spec =
     (λ c. search (needs, facts (c .before), before (c .before)))
     (λ c κs. before (c .before .before) .1)
     (λ c κs. search needs)
-    (λ c. search (needs, facts (c .before .before .before .before)))
-    (λ c. search (needs, facts (c .before .before .before .before)))
-    (λ c. search (needs, facts (c .before .before .before .before)))
-    (λ c. search (needs, facts (c .before .before .before .before)))
+    (λ c κs. search needs)
+    (λ c. search (needs, facts (test c)))
+    (λ c. search (needs, facts (test c)))
+    (λ c. search (needs, facts (test c)))
+    (λ c. search (needs, facts (test c)))
     (λ c κs. search needs)
     same-length
     returns-2)
