@@ -11,9 +11,10 @@ use lib.ListN.{length, getD, set, length-set}
 use lib.Seq.{getD-set-same, getD-set-other}
 use borrow.Author.Tests.{ltb-true, ltb-false, leb-true, leb-false, eqb-true, eqb-false}
 use borrow.Table.Steps.{cases}
-use Rattle.ima_nibble.specs.Step.{State, state}
+use Rattle.ima_nibble.specs.Step.{State, zeroState}
 use Rattle.ms_block.specs.Weave.{place, channelAt, itemAt}
-use Rattle.ms_block.proofs.Weave.{channel-at, item-at, quotient, rest, above}
+use Rattle.ms_block.proofs.Sizes.{Shape, four-bytes}
+use Rattle.ms_block.proofs.Weave.{channel-at, item-at, quotient, rest, above, in-list, in-strand}
 use Rattle.ms_block.specs.Block.{stateIn}
 
 -- where byte d of channel e stands, headers included
@@ -102,10 +103,21 @@ module _ (c : ℕ) (hc : 0 < c) where
         (λ t.
         let same = eqb-true e ch t in
         let k-is = next-is ch d k four′ (subst (λ (i : ℕ). Next c (suc (byte c ch d)) i k) same nx) in
-        subst (λ (i : ℕ). stateIn (set sts ch st) i ≡ stateAt i k) (sym same) (getD-set-same sts ch st (state (pos 0) 0) room ∙ is ∙ ap (stateAt ch) (sym k-is)))
+        subst (λ (i : ℕ). stateIn (set sts ch st) i ≡ stateAt i k) (sym same) (getD-set-same sts ch st zeroState room ∙ is ∙ ap (stateAt ch) (sym k-is)))
         (λ t.
         let other = eqb-false e ch t in
-        getD-set-other sts ch e st (state (pos 0) 0) other ∙ u e k h four′ (another e ch d k h l other nx))
+        getD-set-other sts ch e st zeroState other ∙ u e k h four′ (another e ch d k h l other nx))
+
+    -- behind the last byte
+    pub states-last : {n m : ℕ} → Shape c n m → (sts : List State) → States c stateAt n sts → (e : ℕ) → e < c → stateIn sts e ≡ stateAt e (n / c)
+    states-last {n} is sts u e l =
+        let q = n / c in
+        let last : byte c e (q - 1) < n = in-list 4 c (omega arith) hc n e (q - 1) (is .even) l (omega (arith, four-bytes is)) in
+        let behind : n ≤ byte c e q =
+        cases (ltb (byte c e q) n)
+        (λ t. absurd (omega (arith, in-strand 4 c (omega arith) hc n e q (is .even) l (ltb-true (byte c e q) n t))))
+        (λ t. ltb-false (byte c e q) n t) in
+        u e q l (four-bytes is) (last, behind)
 
   -- ---- the samples of each channel
 

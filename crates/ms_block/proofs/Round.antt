@@ -2,7 +2,7 @@
 -- Over any number of channels that is taken. Assumes nothing.
 use mathlib.Core.Path.{_≡_, refl, sym, ap, _∙_}
 use mathlib.Core.Bool.{cond}
-use mathlib.Core.List.{List, _∷_}
+use mathlib.Core.List.{List, _∷_, _++_}
 use Prim.Native.Nat.{ℕ, _+_, _-_, _*_, _/_, _≤_, _<_}
 use native.Mathlib.Omega.{arith}
 use lib.Dec.{ltb, eqb}
@@ -14,11 +14,11 @@ use borrow.Table.Steps.{cases}
 use Rattle.num.specs.Lists.{from}
 use Rattle.halves.proofs.Halves.{halves-back}
 use Rattle.num.proofs.Lists.{all-at, all-from, table, length-from}
-use Rattle.ima_nibble.specs.Step.{State, state, sixteen, In}
+use Rattle.ima_nibble.specs.Step.{State, zeroState, uncounted, sixteen, In}
 use Rattle.ima_nibble.specs.Table.{imaSteps}
-use Rattle.ima_nibble.specs.Series.{Done, Within, encoded, predictors, nibblesOf}
-use Rattle.ima_nibble.proofs.Series.{packed-length, nibbles-length, decoded-length, encoded-length, decoded-lowered, decodes-back, encoded-unpacked}
-use Rattle.ms_block.specs.Header.{headOf}
+use Rattle.ima_nibble.specs.Series.{Done, Within, encoded, predictors, nibblesOf, packed}
+use Rattle.ima_nibble.proofs.Series.{packed-length, nibbles-length, decoded-length, encoded-length, decoded-lowered, decoded-bare, encoded-bare, decodes-back, encoded-unpacked}
+use Rattle.ms_block.specs.Header.{msHeader, headOf}
 use Rattle.ms_block.specs.Sizes.{most, samplesOf, bytesOf, msRefusal}
 use Rattle.ms_block.specs.Weave.{place, channelAt, itemAt, strand, woven}
 use Rattle.ms_block.proofs.Sizes.{Shape, four-bytes, samples-each, even-samples}
@@ -55,7 +55,15 @@ module _ (k : ℕ) (st : State) (xs : List ℤ) (many : length xs ≡ 1 + 2 * k)
       let vs = enc st (drop 1 xs) .written in
       rw (halves-back (st .predictor) (within .above) (within .below), encoded-unpacked sixteen imaSteps k st (drop 1 xs) pairs)
       (ap (λ (ys : List ℤ). st .predictor ∷ ys)
-      (decoded-lowered sixteen imaSteps (st .predictor) (st .index) vs ∙ ap (λ r. r .written) (decodes-back sixteen imaSteps st (drop 1 xs))))
+      (decoded-lowered sixteen imaSteps (uncounted st) vs
+      ∙ ap (λ r. r .written) (decoded-bare sixteen imaSteps (st .predictor) (st .index) 0 (st .clipped) vs)
+      ∙ ap (λ r. r .written) (decodes-back sixteen imaSteps st (drop 1 xs))))
+
+-- A block has nothing of a count.
+pub channel-bare : (st : State) (xs : List ℤ) → encodedChannel (uncounted st) xs .written ≡ encodedChannel st xs .written
+unfolding encodedChannel
+channel-bare st xs =
+    ap (λ r. msHeader st ++ packed (r .written)) (encoded-bare sixteen imaSteps (st .predictor) (st .index) 0 (st .clipped) (drop 1 xs))
 
 -- ---- all channels, decoded
 
@@ -77,18 +85,18 @@ pub each-is : (c : ℕ) (given : List State) (f : ℕ → State) (states : List 
     → ((e : ℕ) → e < c → stateIn states e ≡ f e) → ((e : ℕ) → c ≤ e → stateIn states e ≡ stateIn given e) → states ≡ each c given f
 each-is c given f states some there others =
     let g : ℕ → State = λ e. cond (ltb e c) (f e) (stateIn given e) in
-    ext-getD (state (pos 0) 0) states (from most 0 g) (some ∙ sym (length-from g most 0))
+    ext-getD zeroState states (from most 0 g) (some ∙ sym (length-from g most 0))
     (λ e h.
     let is : stateIn states e ≡ g e =
     cases (ltb e c)
     (λ t. there e (ltb-true e c t) ∙ ap (λ b. cond b (f e) (stateIn given e)) (sym t))
     (λ t. others e (ltb-false e c t) ∙ ap (λ b. cond b (f e) (stateIn given e)) (sym t)) in
-    is ∙ sym (table g (from most 0 g) most refl e (state (pos 0) 0) (omega (arith, h, some))))
+    is ∙ sym (table g (from most 0 g) most refl e zeroState (omega (arith, h, some))))
 
 pub in-each : (c : ℕ) (states : List State) (f : ℕ → State) (e : ℕ) → e < c → c ≤ most → stateIn (each c states f) e ≡ f e
 in-each c states f e h few =
     let g : ℕ → State = λ e. cond (ltb e c) (f e) (stateIn states e) in
-    table g (from most 0 g) most refl e (state (pos 0) 0) (omega arith) ∙ rw (lt-ltb e c h)
+    table g (from most 0 g) most refl e zeroState (omega arith) ∙ rw (lt-ltb e c h)
 
 -- as many states come back as went in
 pub states-length : (c : ℕ) (samples : List ℤ) (states : List State) (out : List ℕ) → length states ≡ most → length (encodeMs c samples states out .back) ≡ most

@@ -12,7 +12,7 @@ use borrow.Author.Tests.{eqb-true}
 use borrow.Table.Steps.{cases}
 use Rattle.num.specs.Lists.{from}
 use Rattle.num.specs.Outcome.{outcome}
-use Rattle.ima_nibble.specs.Step.{State, state, sixteen}
+use Rattle.ima_nibble.specs.Step.{State, state, reloaded, sixteen}
 use Rattle.ima_nibble.specs.Series.{Within, encoded}
 use Rattle.ms_block.specs.declared.Reading.{Reading}
 use Rattle.ms_block.specs.declared.Reading.the-variants.{Strict, Lenient}
@@ -22,10 +22,10 @@ use Rattle.ms_block.proofs.OwnBytes.{index-is}
 use Rattle.ms_block.proofs.Readings.{sound-if, always-8, read-alike}
 use Rattle.ms_block.proofs.Sizes.{Shape, shape}
 use Rattle.ms_block.proofs.Weave.{woven-same, others-alike}
-use Rattle.ms_block.specs.Block.{decodedChannel, encodedChannel, bytesIn, samplesIn, decodedMsBlock, stateIn, begunIn, begun, statesFrom, encodedMsBlock, heard}
+use Rattle.ms_block.specs.Block.{decodedChannel, encodedChannel, bytesIn, samplesIn, decodedMsBlock, clippedCounts, noCounts, stateIn, begunIn, begun, statesFrom, encodedMsBlock, heard}
 use Rattle.ms_block.specs.Call.{decodeMs, encodeMs}
 use Rattle.ms_block.specs.Sizes.{msRefusal, Taken}
-use Rattle.ms_block.proofs.Round.{channel-decoded, block-length, channel-begun, channel-heard}
+use Rattle.ms_block.proofs.Round.{channel-bare, channel-decoded, block-length, channel-begun, channel-heard}
 
 -- ---- each channel alone
 
@@ -45,7 +45,9 @@ own-samples-alone c n samples others states starts taken long e h same index =
     let is = shape c n (length samples) taken in
     let is′ = shape c n (length others) (rw long taken) in
     channel-begun samples is e h states
-    ∙ ap₂ (λ (xs : List ℤ) (i : ℕ). encodedChannel (state (getD xs 0 (pos 0)) i) xs .written) same index
+    ∙ sym (channel-bare (begunIn c states samples e) (samplesIn c samples e))
+    ∙ ap₂ (λ (xs : List ℤ) (i : ℕ). encodedChannel (state (getD xs 0 (pos 0)) i 0) xs .written) same index
+    ∙ channel-bare (begunIn c starts others e) (samplesIn c others e)
     ∙ sym (channel-begun others is′ e h starts)
 
 -- So changing one channel's header and bytes, in lenient reading, never changes another channel's samples. Strict reading would refuse the whole
@@ -69,13 +71,13 @@ pub decodes-alike : (reading : Reading) (c : ℕ) (bytes : List ℕ) (out : List
     → decodeMs reading c bytes out ≡ decodeMs Lenient c bytes out
 unfolding decodeMs
 decodes-alike reading c bytes out accepted =
-    read-alike c bytes reading (msRefusal c (length bytes) (length out)) (tt, decodedMsBlock c bytes) (tt, out) accepted
+    read-alike c bytes reading (msRefusal c (length bytes) (length out)) (clippedCounts c bytes, decodedMsBlock c bytes) (noCounts, out) accepted
 
 -- ---- one sample
 
--- A one-sample mono block returns its index still, 200 too: no nibble has lowered it. The predictor is the sample.
+-- A one-sample mono block returns its index still, 200 too: no nibble has lowered it. The predictor is the sample, and the count stays.
 pub one-sample : (x : ℤ) (states : List State) (out : List ℕ) → length out ≡ 4
-    → let r = encodeMs 1 (x ∷ []) states out in (r .number ≡ 0) × (stateIn (r .back) 0 ≡ state x (stateIn states 0 .index))
+    → let r = encodeMs 1 (x ∷ []) states out in (r .number ≡ 0) × (stateIn (r .back) 0 ≡ reloaded (stateIn states 0) x (stateIn states 0 .index))
 unfolding from strand msRefusal encoded encodedChannel begun statesFrom encodeMs
 one-sample x states out long = rw long (refl, refl)
 
@@ -109,7 +111,7 @@ module _ (c : ℕ) (samples : List ℤ) (states : List State) (out : List ℕ) (
 
   -- and what it writes from one above 88, strict reading refuses.
   pub raw-refused : (e : ℕ) → e < c → 88 < stateIn states e .index → (back : List ℤ) → length back ≡ length samples
-      → decodeMs Strict c (encodeMs c samples states out .buffer) back ≡ outcome 8 tt back
+      → decodeMs Strict c (encodeMs c samples states out .buffer) back ≡ outcome 8 noCounts back
   unfolding decodeMs encodeMs
   raw-refused e h above back room = rw (taken, long, room, taken, always-8 c block e h (omega (arith, above, index-written e h))) refl
 
@@ -124,9 +126,9 @@ module _ (c : ℕ) (samples : List ℤ) (states : List State) (out : List ℕ) (
     -- What the encoder writes decodes to the first sample and then the encoder's predictor at every sample, for each channel,
     -- in a reading that accepts it.
     pub decodes-back : (reading : Reading) → readBy reading c block 0 ≡ 0 → (back : List ℤ) → length back ≡ length samples
-        → decodeMs reading c (encodeMs c samples states out .buffer) back ≡ outcome 0 tt (woven 1 c (pos 0) (length samples) (heard c states samples))
+        → decodeMs reading c (encodeMs c samples states out .buffer) back ≡ outcome 0 (clippedCounts c block) (woven 1 c (pos 0) (length samples) (heard c states samples))
     unfolding decodeMs encodeMs
-    decodes-back reading accepted back room = rw (taken, long, room, taken, accepted) (ap (outcome 0 tt) decoded-is)
+    decodes-back reading accepted back room = rw (taken, long, room, taken, accepted) (ap (outcome 0 (clippedCounts c block)) decoded-is)
 
     -- the same of one channel
     pub channel-decodes-back : (e : ℕ) → e < c → samplesIn c (decodedMsBlock c block) e ≡ heard c states samples e

@@ -8,12 +8,12 @@ use Rattle.ima_nibble.specs.Step.{State}
 use Rattle.ms_block.specs.declared.Reading.{Reading}
 use Rattle.ms_block.specs.Readings.{readBy}
 use Rattle.ms_block.specs.Sizes.{msRefusal}
-use Rattle.ms_block.specs.Block.{decodedMsBlock, encodedMsBlock, encodedStates}
+use Rattle.ms_block.specs.Block.{decodedMsBlock, clippedCounts, noCounts, encodedMsBlock, encodedStates}
 
--- Decoding takes and returns no state.
-unfoldable pub decodeMs : Reading → ℕ → List ℕ → List ℤ → Outcome Unit (List ℤ)
+-- Decoding takes and returns no state. It answers a count for each channel, and 0 for all of them where it refuses.
+unfoldable pub decodeMs : Reading → ℕ → List ℕ → List ℤ → Outcome (List ℕ) (List ℤ)
 decodeMs reading c bytes out =
-    outcomeBy (readBy reading c bytes (msRefusal c (length bytes) (length out))) (tt, decodedMsBlock c bytes) (tt, out)
+    outcomeBy (readBy reading c bytes (msRefusal c (length bytes) (length out))) (clippedCounts c bytes, decodedMsBlock c bytes) (noCounts, out)
 
 -- Encoding hands the states back.
 unfoldable pub encodeMs : ℕ → List ℤ → List State → List ℕ → Outcome (List State) (List ℕ)

@@ -9,9 +9,9 @@ use Rattle.ima_nibble.specs.Step.{State, state, sixteen, lowered}
 abbrev pub msHeader : State → List ℕ
 msHeader st = (bitsOf (st .predictor) % 256) ∷ (bitsOf (st .predictor) / 256) ∷ st .index ∷ 0 ∷ []
 
--- The decoder lowers an index above 88.
+-- The decoder lowers an index above 88, and its count begins.
 abbrev pub headed : ℕ → ℕ → ℕ → State
-headed low high index = state (fromHalves high low) (lowered sixteen index)
+headed low high index = state (fromHalves high low) (lowered sixteen index) 0
 
 -- The header that a channel's bytes begin with.
 unfoldable pub headOf : List ℕ → State
