@@ -1,4 +1,4 @@
-// An MS block to samples, in lenient reading. Each channel starts from its header, so no state goes in or comes back.
+// An MS block to samples, in lenient reading. Each channel starts from its header, so no state goes in or comes back; each counts its clipped steps from 0.
 use adpcm_ima::IMA_STEP_TABLE;
 use halves::high_nibble;
 use halves::low_nibble;
@@ -14,24 +14,46 @@ ghost use Rattle.num.specs.Outcome.{outcome};
 ghost use Rattle.ima_step.specs.View.{wideOf};
 ghost use Rattle.ms_block.specs.declared.Reading.the-variants.{Lenient};
 ghost use Rattle.ms_block.specs.Sizes.{Taken};
-ghost use Rattle.ms_block.specs.Block.{decodedMsBlock};
+ghost use Rattle.ms_block.specs.Block.{decodedMsBlock, clippedCounts, noCounts, countsOf};
 ghost use Rattle.ms_block.specs.Call.{decodeMs};
 ghost use Rattle.ms_decode.specs.Private.{Headed};
 
-// The number is 0 for done, or of a refusal, and then nothing is written.
-pub fn decode_adpcm_ima_ms_lenient(channels: u8, buf: &[u8], out_samples: &mut [i16]) -> u8
-    ensures { λ r. ⌜ outcome r tt (now («out_samples» .exit)) ≡ decodeMs Lenient channels (now (buf .entry)) (now («out_samples» .entry)) ⌝ }
+// `refusal` is 0 for done. A refusal leaves the buffer alone, and no step is clipped.
+pub struct Answer {
+    pub refusal: u8,
+    pub clipped: [u32; MOST],
+}
+
+pub fn decode_adpcm_ima_ms_lenient(
+    channels: u8,
+    buf: &[u8],
+    out_samples: &mut [i16],
+) -> Answer
+    ensures { λ r. ⌜ outcome (r .refusal) (r .clipped) (now («out_samples» .exit)) ≡ decodeMs Lenient channels (now (buf .entry)) (now («out_samples» .entry)) ⌝ }
 {
     let c = channels as usize;
     let number = refusal(c, buf.len(), out_samples.len());
-    if number == 0 {
-        let heads = heads(c, buf, out_samples);
-        groups(c, buf, heads, out_samples);
+    if number != 0 {
+        return refuse(number);
     }
-    number
+    let heads = heads(c, buf, out_samples);
+    let ends = groups(c, buf, heads, out_samples);
+    Answer {
+        refusal: 0,
+        clipped: counts(ends),
+    }
 }
 
-// Every channel's header: its state, and its first sample.
+pub fn refuse(refusal: u8) -> Answer
+    ensures { λ r. ⌜ (r .refusal ≡ refusal) × (r .clipped ≡ noCounts) ⌝ }
+{
+    Answer {
+        refusal,
+        clipped: [0; MOST],
+    }
+}
+
+// Every channel's header: its state, and its first sample. A channel that is not there has clipped nothing.
 fn heads(c: usize, buf: &[u8], out_samples: &mut [i16]) -> [Wide; MOST]
     requires { ⌜ Taken c (length (now buf)) (length (now «out_samples»)) ⌝ }
     ensures { λ r. ⌜ Headed c (now (buf .entry)) c (now («out_samples» .exit)) (map wideOf r) ⌝ }
@@ -49,9 +71,14 @@ fn heads(c: usize, buf: &[u8], out_samples: &mut [i16]) -> [Wide; MOST]
 }
 
 // Group by group, four bytes of each channel in turn. A channel's last group may be shorter.
-fn groups(c: usize, buf: &[u8], heads: [Wide; MOST], out_samples: &mut [i16])
+fn groups(
+    c: usize,
+    buf: &[u8],
+    heads: [Wide; MOST],
+    out_samples: &mut [i16],
+) -> [Wide; MOST]
     requires { ⌜ Taken c (length (now buf)) (length (now «out_samples»)) × Headed c (now buf) c (now «out_samples») (map wideOf heads) ⌝ }
-    ensures { λ r. ⌜ now («out_samples» .exit) ≡ decodedMsBlock c (now (buf .entry)) ⌝ }
+    ensures { λ r. ⌜ (now («out_samples» .exit) ≡ decodedMsBlock c (now (buf .entry))) × (countsOf (map wideOf r) ≡ clippedCounts c (now (buf .entry))) ⌝ }
 {
     let steps = IMA_STEP_TABLE;
     let n = buf.len();
@@ -84,4 +111,18 @@ fn groups(c: usize, buf: &[u8], heads: [Wide; MOST], out_samples: &mut [i16])
         }
         g += 1;
     }
+    wides
+}
+
+fn counts(wides: [Wide; MOST]) -> [u32; MOST]
+    ensures { λ r. ⌜ r ≡ countsOf (map wideOf wides) ⌝ }
+{
+    let mut clipped = [0; MOST];
+    let mut e = 0;
+    while e < MOST {
+        let wide = wides[e];
+        clipped[e] = wide.clipped;
+        e += 1;
+    }
+    clipped
 }

@@ -11,14 +11,14 @@ use borrow.Author.Tests.{eqb-true, eqb-false, ltb-true, ltb-false}
 use borrow.Table.Steps.{cases}
 use Rattle.halves.specs.Halves.{bitsOf}
 use Rattle.num.proofs.Lists.{as-far, as-long}
-use Rattle.ima_nibble.specs.Step.{State, state, sixteen}
+use Rattle.ima_nibble.specs.Step.{State, zeroState, reloaded, sixteen}
 use Rattle.ima_nibble.specs.Table.{imaSteps}
 use Rattle.ima_nibble.specs.Series.{encoded}
 use Rattle.ms_block.specs.Sizes.{most, bytesOf}
 use Rattle.ms_block.proofs.Sizes.{Shape, four-bytes, samples-each}
 use Rattle.ms_block.proofs.Weave.{singly, in-list, in-strand, strand-at, strand-length, woven-at}
 use Rattle.ms_block.specs.Block.{encodedChannel, samplesIn, stateIn, begunIn, begun, encodedIn, blockFrom, statesFrom, encodedMsBlock}
-use Rattle.ms_block.proofs.Midst.{byte, in-group, States, states-first, state-now, states-turn}
+use Rattle.ms_block.proofs.Midst.{byte, in-group, States, states-first, state-now, states-turn, states-last}
 use Rattle.ms_block.proofs.OwnSamples.{gives, moved, before, byte-is, next-is}
 use Rattle.ms_block.proofs.Round.{each-is, in-each, block-length}
 use Rattle.ms_block.proofs.Walk.{Bytes, own, four, own-place, own-inside}
@@ -86,7 +86,7 @@ module _ {c n : ℕ} (samples : List ℤ) (starts : List State) (is : Shape c n 
             as-far out (blockFrom c starts samples) 0 (byte c ch d) b (omega (arith, place, size))
             (omega (arith, place, block-length samples is starts)) b-block (u .written);
         befores = states-turn c hc (beforeIn c samples starts) ch d states two l four some (two-own ∙ sym (next-is start mine d four inside)) (u .befores);
-        others = λ e k. getD-set-other states ch e two (state (pos 0) 0) (omega (arith, k, l)) ∙ u .others e k;
+        others = λ e k. getD-set-other states ch e two zeroState (omega (arith, k, l)) ∙ u .others e k;
       }
 
   -- the same where the loops stand: the channel's state is in a variable of its own meanwhile
@@ -103,7 +103,7 @@ module _ {c n : ℕ} (samples : List ℤ) (starts : List State) (is : Shape c n 
       turn ch d out (set states ch st) st one two x y b (w .channel) (four w l) (own-inside w l)
       (omega (arith, some, length-set states ch st)) size
       (x-is ∙ ap (λ (p : ℕ). getD samples p (pos 0)) k-is) (y-is ∙ ap (λ (p : ℕ). getD samples p (pos 0)) second)
-      (sym (getD-set-same states ch st (state (pos 0) 0) some)) one-is two-is b-is
+      (sym (getD-set-same states ch st zeroState some)) one-is two-is b-is
       (subst (λ (p : ℕ). Upto c samples starts p out (set states ch st)) (sym here) u) in
       let there : suc at ≡ at + 1 = omega arith in
       subst (λ (p : ℕ). Upto c samples starts p (set out at b) (set states ch two)) there
@@ -117,13 +117,8 @@ module _ {c n : ℕ} (samples : List ℤ) (starts : List State) (is : Shape c n 
     ended e l =
         let mine = samplesIn c samples e in
         let q = n / c in
-        let last : byte c e (q - 1) < n = in-list 4 c (omega arith) hc n e (q - 1) (is .even) l (omega (arith, four-bytes is)) in
-        let behind : n ≤ byte c e q =
-        cases (ltb (byte c e q) n)
-        (λ t. absurd (omega (arith, in-strand 4 c (omega arith) hc n e q (is .even) l (ltb-true (byte c e q) n t))))
-        (λ t. ltb-false (byte c e q) n t) in
         let short : length (drop 1 mine) ≤ 2 * (q - 4) = omega (arith, length-drop 1 mine, strand-length 1 c (omega arith) hc (pos 0) samples e, samples-each is) in
-        u .befores e q l (four-bytes is) (last, behind)
+        states-last c hc (beforeIn c samples starts) is states (u .befores) e l
         ∙ ap (λ xs. encoded sixteen imaSteps (stateIn starts e) xs .end) (take-all (2 * (q - 4)) (drop 1 mine) short)
 
     pub ends : length out ≡ n → length states ≡ most → (states ≡ statesFrom c starts samples) × (out ≡ blockFrom c starts samples)
@@ -200,7 +195,7 @@ module _ {c n : ℕ} (samples : List ℤ) (given : List State) (is : Shape c n (
 
   pub begun-turn : (ch : ℕ) (out : List ℕ) (states : List State) (bits index : ℕ) (st : State)
       → ch < c → length out ≡ n → ch < length states
-      → bits ≡ bitsOf (getD samples ch (pos 0)) → index ≡ stateIn states ch .index → st ≡ state (getD samples ch (pos 0)) index
+      → bits ≡ bitsOf (getD samples ch (pos 0)) → index ≡ stateIn states ch .index → st ≡ reloaded (stateIn states ch) (getD samples ch (pos 0)) index
       → Begun c samples given ch out states
       → Begun c samples given (ch + 1) (four-set out (4 * ch) (bits % 256) (bits / 256) index 0) (set states ch st)
   unfolding encodedChannel
@@ -218,15 +213,18 @@ module _ {c n : ℕ} (samples : List ℤ) (given : List State) (is : Shape c n (
       (sym (head-byte ch 3 0 l (omega arith) refl))
       (b .written) in
       let behind : 4 * ch + 4 ≡ 4 * (ch + 1) = omega arith in
-      let own : st ≡ begunIn c given samples ch = st-is ∙ ap₂ state (sym (first-sample ch l)) (sym index-own) in
+      let own : st ≡ begunIn c given samples ch =
+      st-is
+      ∙ ap₂ (reloaded (stateIn states ch)) (sym (first-sample ch l)) (sym index-own)
+      ∙ ap (λ (s : State). reloaded s (getD (samplesIn c samples ch) 0 (pos 0)) (stateIn given ch .index)) (b .others ch (omega arith)) in
       record {
         written = subst (λ (i : ℕ). take i (four-set out (4 * ch) (bits % 256) (bits / 256) index 0) ≡ take i xs) behind four;
         there =
             λ e h.
             cases (eqb e ch)
-            (λ t. rw (eqb-true e ch t) (getD-set-same states ch st (state (pos 0) 0) some ∙ own))
-            (λ t. getD-set-other states ch e st (state (pos 0) 0) (eqb-false e ch t) ∙ b .there e (omega (arith, h, eqb-false e ch t)));
-        others = λ e h. getD-set-other states ch e st (state (pos 0) 0) (omega (arith, h)) ∙ b .others e (omega (arith, h));
+            (λ t. rw (eqb-true e ch t) (getD-set-same states ch st zeroState some ∙ own))
+            (λ t. getD-set-other states ch e st zeroState (eqb-false e ch t) ∙ b .there e (omega (arith, h, eqb-false e ch t)));
+        others = λ e h. getD-set-other states ch e st zeroState (omega (arith, h)) ∙ b .others e (omega (arith, h));
       }
 
   pub begun-all : (out : List ℕ) (states : List State) → length states ≡ most → Begun c samples given c out states

@@ -60,6 +60,12 @@ module _ {X : Type 0} (f : ℕ → X) where
   all-from P h zero i = tt
   all-from P h (suc n) i = (h i, all-from P h n (suc i))
 
+  -- a rule that gives the same there
+  pub alike : (g : ℕ → X) (n i : ℕ) → ((p : ℕ) → i ≤ p → p < i + n → f p ≡ g p) → from n i f ≡ from n i g
+  unfolding from
+  alike g zero i h = refl
+  alike g (suc n) i h = ap₂ (λ x xs. x ∷ xs) (h i (omega arith) (omega arith)) (alike g n (suc i) (λ p l u. h p (omega arith) (omega arith)))
+
   -- a table that is the rule's list has the rule's value at each place
   pub table : (xs : List X) (n : ℕ) → xs ≡ from n 0 f → (k : ℕ) (d : X) → k < n → getD xs k d ≡ f k
   table xs n e k d h = ap (λ (ys : List X). getD ys k d) e ∙ getD-from n 0 k d h ∙ ap f (omega arith)

@@ -10,7 +10,7 @@ use lib.Seq.{take-all, drop-drop}
 use borrow.Author.Tests.{leb-true, leb-false}
 use borrow.Table.Steps.{cases}
 use Rattle.num.specs.Lists.{from}
-use Rattle.num.proofs.Lists.{length-from, whole}
+use Rattle.num.proofs.Lists.{length-from, alike, whole}
 use Rattle.ima_nibble.specs.Step.{State}
 use Rattle.seek_index.specs.Call.{indexLength}
 use Rattle.seek_index.specs.Private.{Room}
@@ -18,7 +18,7 @@ use Rattle.seek_index.specs.Record.{stateBefore, statesKept, keptState, 
 use Rattle.seek_index.proofs.Before.{onward}
 use Rattle.seek_index.proofs.Bytes.{lent-behind}
 use Rattle.seek_index.proofs.Kept.{kept-rest, none-kept}
-use Rattle.seek_index.proofs.Listed.{alike, shifted}
+use Rattle.seek_index.proofs.Listed.{shifted}
 use Rattle.seek_index.proofs.Turn.{by-part}
 
 -- The states behind the first: those of the blocks behind the first k, from the state there,

@@ -1,7 +1,7 @@
--- A list by a rule in two parts, and by a rule that gives the same there. Assumes nothing.
-use mathlib.Core.Path.{_≡_, refl, ap, ap₂, _∙_}
+-- A list by a rule, in two parts, and from a later number on. Assumes nothing.
+use mathlib.Core.Path.{_≡_, refl, ap, _∙_}
 use mathlib.Core.List.{List, _∷_, _++_}
-use Prim.Native.Nat.{ℕ, zero, suc, _+_, _-_, _≤_, _<_}
+use Prim.Native.Nat.{ℕ, zero, suc, _+_, _-_, _≤_}
 use native.Mathlib.Omega.{arith}
 use Rattle.num.specs.Lists.{from}
 
@@ -19,11 +19,6 @@ module _ {X : Type 0} where
       let e : n ≡ i + (n - i) = omega arith in
       let z : 0 + i ≡ i = omega arith in
       ap (λ (m : ℕ). from m 0 f) e ∙ parted f i (n - i) 0 ∙ ap (λ (m : ℕ). from i 0 f ++ from (n - i) m f) z
-
-  pub alike : (f g : ℕ → X) (n i : ℕ) → ((p : ℕ) → i ≤ p → p < i + n → f p ≡ g p) → from n i f ≡ from n i g
-  unfolding from
-  alike f g zero i h = refl
-  alike f g (suc n) i h = ap₂ (λ x xs. x ∷ xs) (h i (omega arith) (omega arith)) (alike f g n (suc i) (λ p l u. h p (omega arith) (omega arith)))
 
   -- a rule from the i-th number on
   pub shifted : (f : ℕ → X) (i n j : ℕ) → from n j (λ p. f (i + p)) ≡ from n (i + j) f

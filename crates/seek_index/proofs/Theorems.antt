@@ -11,7 +11,7 @@ use lib.Seq.{take-at, drop-at}
 use borrow.Author.Tests.{le-leb, lt-ltb, eq-eqb, ne-eqb}
 use Rattle.num.specs.Lists.{from}
 use Rattle.num.specs.Outcome.{Outcome, outcome}
-use Rattle.num.proofs.Lists.{length-from, getD-from}
+use Rattle.num.proofs.Lists.{length-from, getD-from, alike}
 use Rattle.num.proofs.Outcome.{number-is}
 use Rattle.ima_nibble.specs.Step.{State, uncounted, sixteen, In}
 use Rattle.ima_nibble.specs.Series.{Done, after, bare}
@@ -27,7 +27,7 @@ use Rattle.seek_index.proofs.Before.{onward, same-before, samples-befor
 use Rattle.seek_index.proofs.Bytes.{bytes-length, bytes-append, bytes-bare, state-back}
 use Rattle.seek_index.proofs.Kept.{kept-at}
 use Rattle.seek_index.proofs.Lengths.{index-taken, from-taken}
-use Rattle.seek_index.proofs.Listed.{in-two, alike}
+use Rattle.seek_index.proofs.Listed.{in-two}
 
 -- ---- the record
 

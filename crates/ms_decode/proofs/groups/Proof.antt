@@ -4,7 +4,6 @@ use mathlib.Core.Path.{_≡_, sym, ap, _∙_, subst}
 use mathlib.Core.List.{map}
 use Prim.Native.Nat.{ℕ, _+_, _-_, _*_, _<_}
 use native.Mathlib.Omega.{arith}
-use lib.IntN.{pos}
 use lib.ListN.{length, set, length-set, length-map}
 use mir.Syntax.{w16}
 use mir.Val.{SFits, toZ, ofZ}
@@ -13,7 +12,7 @@ use borrow.Author.Needs.{needs}
 use Rattle.num.proofs.Lists.{map-set, map-kept}
 use Rattle.ima_nibble.specs.Step.{sixteen, stepped}
 use Rattle.ima_nibble.specs.Table.{imaSteps}
-use Rattle.ima_step.specs.View.{wideOf}
+use Rattle.ima_step.specs.View.{wideOf, zeroWide}
 use Rattle.ms_block.specs.Sizes.{most}
 use Rattle.ms_block.proofs.Sizes.{Shape, shape}
 use Rattle.ms_decode.proofs.Read.{Upto, first, byte-turn, ends}
@@ -90,7 +89,7 @@ loop2-holds c =
     let ch = loop .loop .ch in
     let inv = loop .loop .inv in
     let at-end = c .before in (
-      subst (Upto (a .c) (a .buf .now) (loop .loop .at) (loop .loop .out-samples)) (map-kept wideOf wides ch (record { predictor = pos 0; index = 0 })) (inv .0),
+      subst (Upto (a .c) (a .buf .now) (loop .loop .at) (loop .loop .out-samples)) (map-kept wideOf wides ch zeroWide) (inv .0),
       bytes-first g ch (loop .loop .at) (at-end .lesser .result) (inv .1) (at-end .before .before .loop-test .taken) (at-end .before .if1 .left) (at-end .lesser .ensures),
       inv .2,
       inv .3,

@@ -1,14 +1,16 @@
 -- `ms_decode::heads` meets its contract: a turn reads one channel's header. Assumes nothing.
-use mathlib.Core.Path.{_≡_, refl, sym, _∙_, subst}
+use mathlib.Core.Path.{_≡_, refl, sym, ap, _∙_, subst}
 use mathlib.Core.List.{map}
-use Prim.Native.Nat.{_-_, _≤_}
+use Prim.Native.Nat.{ℕ, _-_, _≤_}
 use native.Mathlib.Omega.{arith}
 use lib.ListN.{length, length-set, length-map}
 use mir.Syntax.{w16}
 use mir.Val.{SFits, toZ, ofZ}
 use mir.ValLaws.{toZ-ofZ}
 use borrow.Author.Needs.{needs}
-use Rattle.num.proofs.Lists.{map-set}
+use Rattle.num.specs.Lists.{from}
+use Rattle.num.proofs.Lists.{all-at, all-from, map-set}
+use Rattle.ima_nibble.specs.Step.{State, zeroState}
 use Rattle.ima_step.specs.View.{wideOf}
 use Rattle.ms_block.specs.Sizes.{most}
 use Rattle.ms_block.proofs.Sizes.{Shape, shape, samples-all}
@@ -30,10 +32,13 @@ abbrev μ-loop : tie.MeasureT-loop
 μ-loop c buf out-samples₀ wides₀ ch₀ out-samples wides ch = c - ch
 
 loop-holds : tie.Need-loop-holds Inv-loop μ-loop
+unfolding from
 loop-holds c =
     let s = c .before .before .before in
     let a = s .args in
-    ((λ e l. absurd (omega (arith, l))), shape (a .c) (length (a .buf .now)) (length (a .out-samples .now)) (s .pre), refl, refl, omega arith)
+    let none : wideOf (c .widen .result) .clipped ≡ 0 = ap (λ (st : State). st .clipped) (c .widen .ensures .0 ∙ c .before .head .ensures) in
+    let all = all-from (λ (k : ℕ). wideOf (c .widen .result)) (λ (st : State). st .clipped ≡ 0) (λ k. none) most 0 in
+    (record { there = λ e l. absurd (omega (arith, l)); others = λ e l. all-at (λ (st : State). st .clipped ≡ 0) (from most 0 (λ (k : ℕ). wideOf (c .widen .result))) e zeroState refl all }, shape (a .c) (length (a .buf .now)) (length (a .out-samples .now)) (s .pre), refl, refl, omega arith)
 
 loop-again : tie.Need-loop-again Inv-loop μ-loop
 loop-again c =
@@ -57,7 +62,11 @@ same-length c = c .before .loop .inv .2
 
 returns : tie.Need-returns Inv-loop μ-loop
 returns c =
-    λ e l. c .before .loop .inv .0 e (omega (arith, l, c .loop-test .left))
+    let loop = c .before in
+    let a = loop .before .before .before .before .args in
+    let inv = loop .loop .inv in
+    let end : loop .loop .ch ≡ a .c = omega (arith, inv .4, c .loop-test .left) in
+    subst (λ (k : ℕ). Headed (a .c) (a .buf .now) k (loop .loop .out-samples) (map wideOf (loop .loop .wides))) end (inv .0)
 
 pub heads-spec : {M : Type 1} → statement M
 heads-spec =

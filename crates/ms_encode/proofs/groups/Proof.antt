@@ -13,8 +13,7 @@ use borrow.Author.Needs.{needs}
 use Rattle.num.proofs.Lists.{map-set, map-kept}
 use Rattle.ima_nibble.specs.Step.{State, sixteen, stepped}
 use Rattle.ima_nibble.specs.Table.{imaSteps}
-use Rattle.adpcm_ima.specs.declared.AdpcmImaState.{AdpcmImaState}
-use Rattle.adpcm_ima.specs.View.{stateOf}
+use Rattle.adpcm_ima.specs.View.{stateOf, zeroed}
 use Rattle.ima_step.specs.View.{wideOf}
 use Rattle.ima_nibble.proofs.Bounds.{moved-lt, narrow-below}
 use Rattle.ms_block.specs.Sizes.{most}
@@ -199,8 +198,7 @@ loop-again c =
     let states = loop .loop .states in
     let ch = loop .loop .ch in
     let st = c .narrow .ensures ∙ narrow-below (wideOf (at .loop2 .wide)) (inv .6) in
-    let d : AdpcmImaState = record { predictor = pos 0; «step_index» = 0 } in
-    let kept = map-kept stateOf states ch d ∙ ap (set (map stateOf states) ch) (sym (at .before .widen .ensures .0)) in
+    let kept = map-kept stateOf states ch zeroed ∙ ap (set (map stateOf states) ch) (sym (at .before .widen .ensures .0)) in
     let back = ap (set (map stateOf states) ch) (sym st) ∙ sym (map-set stateOf states ch (c .narrow .result)) in (
       (λ starts u. subst (Upto (a .c) (a .samples .now) starts (at .loop2 .at) (at .loop2 .out-buf)) back
           (inv .0 starts (subst (Upto (a .c) (a .samples .now) starts (loop .loop .at) (loop .loop .out-buf)) kept (loop .loop .inv .0 starts u)))),

@@ -1,5 +1,5 @@
 -- `ms_encode::heads` meets its contract: a turn writes one channel's header, and sets its predictor. Assumes nothing.
-use mathlib.Core.Path.{_≡_, refl, sym, ap, _∙_, subst}
+use mathlib.Core.Path.{_≡_, refl, sym, ap, ap₂, _∙_, subst}
 use mathlib.Core.List.{map}
 use Prim.Native.Nat.{ℕ, _+_, _-_, _*_, _/_, _%_, _≤_, _<_}
 use native.Mathlib.Omega.{arith}
@@ -11,9 +11,8 @@ use mir.ValLaws.{toZ-ofZ}
 use borrow.Author.Needs.{needs}
 use Rattle.halves.specs.Halves.{bitsOf}
 use Rattle.num.proofs.Lists.{map-set}
-use Rattle.ima_nibble.specs.Step.{State, state}
-use Rattle.adpcm_ima.specs.declared.AdpcmImaState.{AdpcmImaState}
-use Rattle.adpcm_ima.specs.View.{stateOf}
+use Rattle.ima_nibble.specs.Step.{State, reloaded}
+use Rattle.adpcm_ima.specs.View.{stateOf, zeroed}
 use Rattle.ms_block.specs.Sizes.{most}
 use Rattle.ms_block.proofs.Sizes.{Shape, shape}
 use Rattle.ms_encode.proofs.Write.{Begun, begun-first, begun-turn, begun-all, four-length}
@@ -62,8 +61,7 @@ loop-again c =
     let states = at .loop .states in
     let n = length (a .out-buf .now) in
     let samples = a .samples .now in
-    let d : AdpcmImaState = record { predictor = pos 0; «step_index» = 0 } in
-    let st = getD states ch d in
+    let st = getD states ch zeroed in
     let bits = at-bits .bits-of in
     let low = c .before .before .low-half in
     let high = c .before .high-half in
@@ -72,11 +70,12 @@ loop-again c =
     let is = subst (λ (k : ℕ). Shape (a .c) k (length samples)) (inv .2) (inv .1) in
     let some : ch < length (map stateOf states) = omega (arith, h, inv .1 .few, length-map states stateOf, inv .3) in
     let long = four-length out (4 * ch) (low .result) (high .result) (st .«step_index») 0 in
+    let own = List·getD-map stateOf states ch zeroed in
     let turn =
     begun-turn samples (map stateOf (a .given)) is ch out (map stateOf states) (bits .result) (st .«step_index») (stateOf (c .reload .result)) h (inv .2) some
     (bits .ensures .0 ∙ ap bitsOf (toZ-ofZ w16 _ f))
-    (ap (λ (s : State). s .index) (sym (List·getD-map stateOf states ch d)))
-    (c .reload .ensures ∙ ap (λ (z : ℤ). state z (st .«step_index»)) (toZ-ofZ w16 _ f))
+    (ap (λ (s : State). s .index) (sym own))
+    (c .reload .ensures ∙ ap₂ (λ (s : State) (z : ℤ). reloaded s z (st .«step_index»)) (sym own) (toZ-ofZ w16 _ f))
     (inv .0) in (
       rw (map-set stateOf states ch (c .reload .result), low .ensures, high-is) turn,
       subst (λ (k : ℕ). Shape (a .c) k (length samples)) (sym long) (inv .1),
