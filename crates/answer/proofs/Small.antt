@@ -26,10 +26,10 @@ module _ (c : ℕ) (block : List ℕ) (small : Small c block) where
   decoded-many = samples-shape block (shape c (length block) (samplesOf c (length block)) (small .0)) .fits
 
   -- what was decoded into the first places of an array, and the rest of it
-  pub decodes : (k n : ℕ) (xs out : List ℤ) → n ≡ samplesOf c (length block) → length out ≡ 8185 → outcome k tt xs ≡ decodeMs Lenient c block (take n out)
+  pub decodes : (k n : ℕ) (ns : List ℕ) (xs out : List ℤ) → n ≡ samplesOf c (length block) → length out ≡ 8185 → outcome k ns xs ≡ decodeMs Lenient c block (take n out)
       → (length (xs ++ drop n out) ≡ 8185) × (take (samplesOf c (length block)) (xs ++ drop n out) ≡ decodedMsBlock c block)
   unfolding decodeMs
-  decodes k n xs out n-is size e =
+  decodes k n ns xs out n-is size e =
       let long : length (take n out) ≡ samplesOf c (length block) = length-take-le n out (omega (arith, n-is, size, samples-few)) ∙ n-is in
       let xs-are : xs ≡ decodedMsBlock c block = ap (λ r. r .buffer) e ∙ rw (long, small .0) refl in
       let many = ap length xs-are ∙ decoded-many in

@@ -1,19 +1,28 @@
-// The channels' states and their numbers, two arrays of which stand for them on the C side.
+// The channels' states and their numbers, three arrays of which stand for them on the C side.
 use adpcm_ima::AdpcmImaState;
 use ms_layout::MOST;
 ghost use mathlib.Core.Path.{_≡_};
 ghost use mathlib.Core.List.{map};
 ghost use Rattle.adpcm_ima.specs.View.{stateOf};
+ghost use Rattle.ms_block.specs.Block.{countsOf};
 ghost use Rattle.channels.specs.States.{statesOf, predictorsOf, indicesOf};
 
-pub fn states_of(predictors: [i16; MOST], step_indices: [u8; MOST]) -> [AdpcmImaState; MOST]
-    ensures { λ r. ⌜ map stateOf r ≡ statesOf predictors «step_indices» ⌝ }
+pub fn states_of(
+    predictors: [i16; MOST],
+    step_indices: [u8; MOST],
+    clipped: [u32; MOST],
+) -> [AdpcmImaState; MOST]
+    ensures { λ r. ⌜ map stateOf r ≡ statesOf predictors «step_indices» clipped ⌝ }
 {
     let mut states = [AdpcmImaState::new(); MOST];
     let mut e = 0;
     while e < MOST {
-        let state = states[e];
-        states[e] = state.reload(predictors[e], step_indices[e]);
+        let predictor = predictors[e];
+        states[e] = AdpcmImaState {
+            predictor,
+            step_index: step_indices[e],
+            clipped: clipped[e],
+        };
         e += 1;
     }
     states
@@ -44,4 +53,17 @@ pub fn step_indices_of(states: [AdpcmImaState; MOST]) -> [u8; MOST]
         e += 1;
     }
     step_indices
+}
+
+pub fn clipped_of(states: [AdpcmImaState; MOST]) -> [u32; MOST]
+    ensures { λ r. ⌜ r ≡ countsOf (map stateOf states) ⌝ }
+{
+    let mut clipped = [0; MOST];
+    let mut e = 0;
+    while e < MOST {
+        let state = states[e];
+        clipped[e] = state.clipped;
+        e += 1;
+    }
+    clipped
 }

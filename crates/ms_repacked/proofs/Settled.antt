@@ -7,7 +7,7 @@ use native.Mathlib.Omega.{arith}
 use lib.IntN.{ℤ, pos}
 use lib.ListN.{length, getD, drop}
 use Rattle.halves.proofs.Halves.{halves-back, bits-fit}
-use Rattle.ima_nibble.specs.Step.{State, state, sixteen, In, lowered}
+use Rattle.ima_nibble.specs.Step.{State, reloaded, uncounted, sixteen, In, lowered}
 use Rattle.ima_nibble.specs.Table.{imaSteps}
 use Rattle.ima_nibble.specs.Series.{Within, predictors, nibblesOf, packed}
 use Rattle.ima_nibble.proofs.Bounds.{fits-in}
@@ -19,7 +19,7 @@ use Rattle.ms_block.specs.Weave.{woven}
 use Rattle.ms_block.proofs.Sizes.{Shape}
 use Rattle.ms_block.proofs.Weave.{woven-length, woven-same, rewoven}
 use Rattle.ms_block.specs.Block.{decodedChannel, encodedChannel, bytesIn, decodedMsBlock, begun}
-use Rattle.ms_block.proofs.Round.{read-back, channel-decoded, channel-begun, block-length, in-each, decoded-within}
+use Rattle.ms_block.proofs.Round.{read-back, channel-bare, channel-decoded, channel-begun, block-length, in-each, decoded-within}
 use Rattle.ms_repacked.specs.Repack.{startsOf, repacked}
 
 -- ---- one channel
@@ -41,8 +41,8 @@ pub samples-in : (own : List ℕ) → Within sixteen (decodedChannel own)
 unfolding decodedChannel
 samples-in own = (head-in own, nibbles-within sixteen imaSteps (headOf own) (nibblesOf (drop 4 own)) (head-in own))
 
--- the header that was written is read as it was
-head-back : (st : State) (xs : List ℤ) → In sixteen (st .predictor) → st .index ≤ 88 → headOf (encodedChannel st xs .written) ≡ st
+-- the header that was written is read as it was, with a count that begins
+head-back : (st : State) (xs : List ℤ) → In sixteen (st .predictor) → st .index ≤ 88 → headOf (encodedChannel st xs .written) ≡ uncounted st
 unfolding headOf encodedChannel
 head-back st xs p h =
     let same : lowered sixteen (st .index) ≡ st .index = omega arith in
@@ -60,6 +60,7 @@ unfolding encodedChannel
 settled k st xs many p h within =
     let ys = st .predictor ∷ predictors sixteen imaSteps st (drop 1 xs) in
     ap₂ (λ (s : State) (zs : List ℤ). encodedChannel s zs .written) (head-back st xs p h) (read-back k st xs many p)
+    ∙ channel-bare st ys
     ∙ ap (λ r. msHeader st ++ packed (r .written)) (encodes-again sixteen imaSteps (λ s. omega (arith, step-within s)) st (drop 1 xs) p (rest-in xs within))
 
 -- ---- all channels
@@ -94,5 +95,5 @@ module _ {c m : ℕ} (block : List ℕ) (is : Shape c (length block) m) where
   unfolding repacked decodedChannel
   channel-again e h =
       channel-begun (decodedMsBlock c block) samples-shape e h (startsOf c block)
-      ∙ ap₂ (λ (xs : List ℤ) (st : State). encodedChannel (state (getD xs 0 (pos 0)) (st .index)) xs .written)
+      ∙ ap₂ (λ (xs : List ℤ) (st : State). encodedChannel (reloaded st (getD xs 0 (pos 0)) (st .index)) xs .written)
       (channel-decoded block is e h) (in-each c [] (λ e. headOf (bytesIn c block e)) e h (is .few))

@@ -13,7 +13,7 @@ use borrow.Author.Tests.{eqb-true, eq-eqb}
 use borrow.Table.Steps.{cases}
 use Rattle.num.proofs.Lists.{all-at, all-from, length-from}
 use Rattle.num.specs.Outcome.{Outcome, outcome}
-use Rattle.ima_nibble.specs.Step.{State, state, lowered, sixteen}
+use Rattle.ima_nibble.specs.Step.{State, zeroState, lowered, sixteen}
 use Rattle.ms_block.specs.declared.Reading.{Reading}
 use Rattle.ms_block.specs.declared.Reading.the-variants.{Lenient}
 use Rattle.ms_block.specs.Header.{headOf}
@@ -64,7 +64,7 @@ by-repacking c m block is taken =
 
 -- the index of a channel that the encoder could have started from
 held : {c : ℕ} {block : List ℕ} (w : Written c block) (e : ℕ) → stateIn (w .states) e .index ≤ 88
-held w e = all-at (λ (s : State). s .index ≤ 88) (w .states) e (state (pos 0) 0) (omega arith) (w .indices)
+held w e = all-at (λ (s : State). s .index ≤ 88) (w .states) e zeroState (omega arith) (w .indices)
 
 -- And what the encoder wrote, repacking leaves as it was, channel by channel.
 as-written : (c : ℕ) (block : List ℕ) → Written c block → repacked c block ≡ block

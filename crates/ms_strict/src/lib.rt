@@ -1,6 +1,7 @@
 // The two calls that read an MS block, in strict reading, which is the default: a step index above 88 in a header refuses the block.
 // A block that is accepted is read as the lenient calls read it.
 use ms_decode::decode_adpcm_ima_ms_lenient;
+use ms_decode::refuse;
 use ms_layout::refusal;
 use ms_layout::repack_refusal;
 use ms_reading::strict_refusal;
@@ -12,16 +13,20 @@ ghost use Rattle.ms_block.specs.declared.Reading.the-variants.{Strict};
 ghost use Rattle.ms_block.specs.Call.{decodeMs};
 ghost use Rattle.ms_repacked.specs.Repack.{repackMs};
 
-// The number is 0 for done, or of a refusal, and then nothing is written. 8 comes after 1 and 2.
-pub fn decode_adpcm_ima_ms(channels: u8, buf: &[u8], out_samples: &mut [i16]) -> u8
-    ensures { λ r. ⌜ outcome r tt (now («out_samples» .exit)) ≡ decodeMs Strict channels (now (buf .entry)) (now («out_samples» .entry)) ⌝ }
+// A refusal by 8 comes after 1 and 2.
+pub fn decode_adpcm_ima_ms(
+    channels: u8,
+    buf: &[u8],
+    out_samples: &mut [i16],
+) -> ms_decode::Answer
+    ensures { λ r. ⌜ outcome (r .refusal) (r .clipped) (now («out_samples» .exit)) ≡ decodeMs Strict channels (now (buf .entry)) (now («out_samples» .entry)) ⌝ }
 {
     let by_lengths = refusal(channels as usize, buf.len(), out_samples.len());
     let number = strict_refusal(by_lengths, channels, buf);
     if number == 0 {
         decode_adpcm_ima_ms_lenient(channels, buf, out_samples)
     } else {
-        number
+        refuse(number)
     }
 }
 

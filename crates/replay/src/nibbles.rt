@@ -1,6 +1,7 @@
 // The calls on one nibble.
 use crate::answer::Answer;
 use crate::answer::unknown_call;
+use crate::state::same_numbers;
 use crate::state::state_at;
 use halves::from_halves;
 ghost use mathlib.Core.Path.{_≡_};
@@ -34,7 +35,7 @@ fn check_decode(bytes: &[u8]) -> bool
     let after = state_at(bytes, 7);
     let d = before.decode(nibble);
     if d.sample == sample {
-        d.state.same(after)
+        same_numbers(d.state, after)
     } else {
         false
     }
@@ -49,7 +50,7 @@ fn check_encode(bytes: &[u8]) -> bool
     let after = state_at(bytes, 7);
     let e = before.encode(sample);
     if e.nibble == nibble {
-        e.state.same(after)
+        same_numbers(e.state, after)
     } else {
         false
     }

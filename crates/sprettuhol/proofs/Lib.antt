@@ -1,1 +1,1 @@
-pub mod Repacked
+pub mod Told

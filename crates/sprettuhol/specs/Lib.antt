@@ -1,3 +1,5 @@
+pub mod Decode
 pub mod Loss
 pub mod Repack
+pub mod Told
 pub mod Version

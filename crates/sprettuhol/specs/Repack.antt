@@ -10,9 +10,5 @@ use Rattle.ms_repacked.specs.Repack.{repackMs}
 abbrev pub numberOf : Bool → ℕ
 numberOf changed = cond changed 1 0
 
--- What is stored of it: that number where the call is done, and where it is refused the one that was there.
-abbrev pub toldChange : ℕ → Bool → ℕ → Outcome ℕ Unit
-toldChange refusal changed given = outcomeBy refusal (numberOf changed, tt) (given, tt)
-
 unfoldable pub repackCall : Reading → ℕ → List ℕ → List ℕ → ℕ → Outcome ℕ (List ℕ)
 repackCall reading c block out given = let r = repackMs reading c block out in outcomeBy (r .number) (numberOf (r .back), r .buffer) (given, out)

@@ -30,7 +30,7 @@ returns c =
     let out = zeros .zero-samples in
     let decode = c .before .decode-adpcm-ima-ms-lenient in
     let n-is = many .samples .ensures ∙ samples-are (a .channels) (a .block .now) (s .pre) in
-    decodes (a .channels) (a .block .now) (s .pre) (decode .result) (many .samples .result) (decode .last .1 .1 .0) (out .result) n-is (out .ensures) (decode .ensures)
+    decodes (a .channels) (a .block .now) (s .pre) (decode .result .refusal) (many .samples .result) (decode .result .clipped) (decode .last .1 .1 .0) (out .result) n-is (out .ensures) (decode .ensures)
 
 pub samples-of-spec : {M : Type 1} → statement M
 samples-of-spec =

@@ -12,25 +12,24 @@ use borrow.Author.Needs.{needs}
 use Rattle.num.proofs.Lists.{Upto, one-more, all}
 use Rattle.ima_nibble.specs.Step.{State}
 use Rattle.adpcm_ima.specs.declared.AdpcmImaState.{AdpcmImaState}
-use Rattle.adpcm_ima.specs.View.{stateOf}
+use Rattle.adpcm_ima.specs.View.{stateOf, zeroed}
 use Rattle.ms_block.specs.Sizes.{most}
 use Rattle.ms_block.specs.Block.{stateIn}
 use Rattle.channels.specs.States.{predictorsOf}
-use Rattle.channels.proofs.Numbers.{nobody}
 use Rattle.channels.proofs.predictors_of.Statement.{statement}
 use Rattle.channels.proofs.predictors_of.Tie as tie
 
+abbrev rule : List AdpcmImaState → ℕ → ℤ
+rule states k = stateIn (map stateOf states) k .predictor
+
 abbrev Inv-loop : tie.InvT-loop
 Inv-loop states predictors₀ e₀ predictors e =
-    Upto (λ k. stateIn (map stateOf states) k .predictor) most predictors e
+    Upto (rule states) most predictors e
     × (length predictors ≡ most)
     × (e ≤ most)
 
 abbrev μ-loop : tie.MeasureT-loop
 μ-loop states predictors₀ e₀ predictors e = most - e
-
-abbrev rule : List AdpcmImaState → ℕ → ℤ
-rule states k = stateIn (map stateOf states) k .predictor
 
 loop-holds : tie.Need-loop-holds Inv-loop μ-loop
 loop-holds c = (refl, refl, omega arith)
@@ -41,10 +40,10 @@ loop-again c =
     let states = at .before .args .t1 in
     let e = at .loop .e in
     let inv = at .loop .inv in
-    let st = getD states e nobody in
+    let st = getD states e zeroed in
     let f : SFits w16 (st .predictor) = search needs in
     let x = toZ w16 (ofZ w16 (st .predictor)) in (
-      one-more (rule states) most e (at .loop .predictors) x (inv .1) (c .before .before .loop-test .taken) (toZ-ofZ w16 _ f ∙ ap (λ (s : State). s .predictor) (sym (List·getD-map stateOf states e nobody))) (inv .0),
+      one-more (rule states) most e (at .loop .predictors) x (inv .1) (c .before .before .loop-test .taken) (toZ-ofZ w16 _ f ∙ ap (λ (s : State). s .predictor) (sym (List·getD-map stateOf states e zeroed))) (inv .0),
       length-set (at .loop .predictors) e x ∙ inv .1,
       omega (arith, c .before .before .loop-test .taken),
     )

@@ -8,25 +8,24 @@ use borrow.Author.Needs.{needs}
 use Rattle.num.proofs.Lists.{Upto, one-more, all}
 use Rattle.ima_nibble.specs.Step.{State}
 use Rattle.adpcm_ima.specs.declared.AdpcmImaState.{AdpcmImaState}
-use Rattle.adpcm_ima.specs.View.{stateOf}
+use Rattle.adpcm_ima.specs.View.{stateOf, zeroed}
 use Rattle.ms_block.specs.Sizes.{most}
 use Rattle.ms_block.specs.Block.{stateIn}
 use Rattle.channels.specs.States.{indicesOf}
-use Rattle.channels.proofs.Numbers.{nobody}
 use Rattle.channels.proofs.step_indices_of.Statement.{statement}
 use Rattle.channels.proofs.step_indices_of.Tie as tie
 
+abbrev rule : List AdpcmImaState → ℕ → ℕ
+rule states k = stateIn (map stateOf states) k .index
+
 abbrev Inv-loop : tie.InvT-loop
 Inv-loop states step-indices₀ e₀ step-indices e =
-    Upto (λ k. stateIn (map stateOf states) k .index) most step-indices e
+    Upto (rule states) most step-indices e
     × (length step-indices ≡ most)
     × (e ≤ most)
 
 abbrev μ-loop : tie.MeasureT-loop
 μ-loop states step-indices₀ e₀ step-indices e = most - e
-
-abbrev rule : List AdpcmImaState → ℕ → ℕ
-rule states k = stateIn (map stateOf states) k .index
 
 loop-holds : tie.Need-loop-holds Inv-loop μ-loop
 loop-holds c = (refl, refl, omega arith)
@@ -37,8 +36,8 @@ loop-again c =
     let states = at .before .args .t1 in
     let e = at .loop .e in
     let inv = at .loop .inv in
-    let x = getD states e nobody .«step_index» in (
-      one-more (rule states) most e (at .loop .step-indices) x (inv .1) (c .before .loop-test .taken) (ap (λ (s : State). s .index) (sym (List·getD-map stateOf states e nobody))) (inv .0),
+    let x = getD states e zeroed .«step_index» in (
+      one-more (rule states) most e (at .loop .step-indices) x (inv .1) (c .before .loop-test .taken) (ap (λ (s : State). s .index) (sym (List·getD-map stateOf states e zeroed))) (inv .0),
       length-set (at .loop .step-indices) e x ∙ inv .1,
       omega (arith, c .before .loop-test .taken),
     )

@@ -1,9 +1,12 @@
 -- `ms_strict::decode_adpcm_ima_ms` meets its contract: a block that strict reading accepts is decoded as lenient reading decodes it. Assumes nothing.
-use mathlib.Core.Path.{_≡_, refl, sym, ap, _∙_}
+use mathlib.Core.Path.{_≡_, sym, ap, ap₂, _∙_}
+use mathlib.Core.List.{List}
+use Prim.Native.Nat.{ℕ}
 use native.Mathlib.Omega.{arith}
 use lib.ListN.{length}
 use borrow.Author.Needs.{needs}
 use borrow.Author.Tests.{ne-eqb}
+use Rattle.num.specs.Outcome.{outcome}
 use Rattle.ms_block.specs.declared.Reading.the-variants.{Strict}
 use Rattle.ms_block.specs.Call.{decodeMs}
 use Rattle.ms_block.specs.Readings.{readBy}
@@ -32,12 +35,17 @@ returns c =
 
 returns-2 : tie.Need-returns-2
 unfolding decodeMs
-returns-2 c = rw (← (number-is (c .before)), ne-eqb (c .before .strict-refusal .result) 0 (λ z. omega (arith, z, c .if1 .left))) refl
+returns-2 c =
+    let refused = c .before in
+    let a = start (refused .before) .args in
+    rw (← (number-is (refused .before)), ne-eqb (refused .before .strict-refusal .result) 0 (λ z. omega (arith, z, refused .if1 .left)))
+    (ap₂ (λ (n : ℕ) (ns : List ℕ). outcome n ns (a .out-samples .now)) (c .refuse .ensures .0) (c .refuse .ensures .1))
 
 pub decode-adpcm-ima-ms-spec : {M : Type 1} → statement M
 decode-adpcm-ima-ms-spec =
     tie.close
     (tie.spec
+    (λ c κs. search needs)
     (λ c κs. search needs)
     (λ c κs. search needs)
     (λ c κs. search needs)

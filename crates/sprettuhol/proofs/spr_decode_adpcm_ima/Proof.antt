@@ -1,4 +1,4 @@
--- `sprettuhol::spr_decode_adpcm_ima` meets its contract: it hands the two numbers on as a state, and stores the state that comes back. Assumes nothing.
+-- `sprettuhol::spr_decode_adpcm_ima` meets its contract: it hands the three numbers on as a state, and stores the state that comes back. Assumes nothing.
 use mathlib.Core.Path.{ap, _∙_}
 use lib.IntN.{ℤ}
 use mir.Syntax.{w16}
@@ -12,13 +12,13 @@ use Rattle.sprettuhol.proofs.spr_decode_adpcm_ima.Tie as tie
 
 returns : tie.Need-returns
 returns c =
-    let s = c .before .before .before .before .before in
+    let s = c .before .before .before .before .before .before in
     let r = c .before .before .decode .result in
     let e = c .before .before .decode .ensures in
     let f : SFits w16 (r .state .predictor) = search needs in
     let g : SFits w16 (s .args .predictor .now) = search needs in
-    let given = ap (λ (p : ℤ). state p (s .args .step-index .now)) (toZ-ofZ w16 _ g) in
-    let stored = ap (λ (p : ℤ). state p (r .state .«step_index»)) (toZ-ofZ w16 _ f) in
+    let given = ap (λ (p : ℤ). state p (s .args .step-index .now) (s .args .clipped .now)) (toZ-ofZ w16 _ g) in
+    let stored = ap (λ (p : ℤ). state p (r .state .«step_index») (r .state .clipped)) (toZ-ofZ w16 _ f) in
     (ap (λ (z : ℤ). toZ w16 (ofZ w16 z)) (e .1), stored ∙ e .0 ∙ ap (λ (st : State). stepped sixteen imaSteps st (s .args .nibble)) given)
 
 pub spr-decode-adpcm-ima-spec : {M : Type 1} → statement M
