@@ -46,7 +46,8 @@ fn print_encode(channels: u8, m: usize)
 fn decode(channels: u8, block: &[u8], n: usize, samples: &mut [i16], m: usize) -> u8
     requires { ⌜ (n ≤ length (now block)) × (m ≤ length (now samples)) ⌝ }
 {
-    decode_adpcm_ima_ms(channels, &block[0..n], &mut samples[0..m])
+    let answer = decode_adpcm_ima_ms(channels, &block[0..n], &mut samples[0..m]);
+    answer.refusal
 }
 
 fn encode(channels: u8, samples: &[i16], m: usize, block: &mut [u8], n: usize) -> u8

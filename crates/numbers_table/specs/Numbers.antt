@@ -10,6 +10,7 @@ use Rattle.g711.specs.Law.{mu-law, A-law, sampleOf, codeOf}
 use Rattle.ima_nibble.specs.Step.{State, state, sixteen, stepped, emitted}
 use Rattle.ima_nibble.specs.Table.{imaSteps}
 use Rattle.ms_block.specs.declared.Reading.the-variants.{Strict}
+use Rattle.ms_block.specs.Block.{noCounts}
 use Rattle.ms_block.specs.Call.{decodeMs}
 use Rattle.ms_repacked.specs.Repack.{repackMs}
 
@@ -35,6 +36,9 @@ rightColumn (x gives y ∷ rows) = (y, rightColumn rows)
 
 -- ---- What the rows ask
 
+abbrev pub unclipped : ℤ → ℕ → State
+unclipped p i = state p i 0
+
 -- Decoding a nibble gives the next state, whose predictor is the sample.
 abbrev pub decode : State → ℕ → State
 decode = stepped sixteen imaSteps
@@ -57,22 +61,22 @@ bytes = 1 ∷ 1 ∷ 1 ∷ 1 ∷ 1 ∷ []
 
 abbrev pub numbers : List Row
 numbers =
-    -- State is (predictor, index).
+    -- State is (predictor, index); none of these steps is clipped but one.
     -- decode (0,0): 7 gives 11, index 8; 15 gives -11, index 8; 8 gives 0, index 0.
-    decode (state (pos 0) 0) 7 gives state (pos 11) 8 ∷
-    decode (state (pos 0) 0) 15 gives state (negℤ (pos 11)) 8 ∷
-    decode (state (pos 0) 0) 8 gives state (pos 0) 0 ∷
-    -- decode (0,255): 0 gives 4095, index 87. decode (0,88): 7 gives 32767, index 88.
-    decode (state (pos 0) 255) 0 gives state (pos 4095) 87 ∷
-    decode (state (pos 0) 88) 7 gives state (pos 32767) 88 ∷
+    decode (unclipped (pos 0) 0) 7 gives unclipped (pos 11) 8 ∷
+    decode (unclipped (pos 0) 0) 15 gives unclipped (negℤ (pos 11)) 8 ∷
+    decode (unclipped (pos 0) 0) 8 gives unclipped (pos 0) 0 ∷
+    -- decode (0,255): 0 gives 4095, index 87. decode (0,88): 7 gives 32767, index 88. The sum is 61,436.
+    decode (unclipped (pos 0) 255) 0 gives unclipped (pos 4095) 87 ∷
+    decode (unclipped (pos 0) 88) 7 gives state (pos 32767) 88 1 ∷
     -- encode (0,0): 0 gives 0; -1 gives 9 and (-1,0); 32767 gives 7 and (11,8).
-    encode (state (pos 0) 0) (pos 0) .0 gives 0 ∷
-    encode (state (pos 0) 0) (negℤ (pos 1)) gives (9, state (negℤ (pos 1)) 0) ∷
-    encode (state (pos 0) 0) (pos 32767) gives (7, state (pos 11) 8) ∷
+    encode (unclipped (pos 0) 0) (pos 0) .0 gives 0 ∷
+    encode (unclipped (pos 0) 0) (negℤ (pos 1)) gives (9, unclipped (negℤ (pos 1)) 0) ∷
+    encode (unclipped (pos 0) 0) (pos 32767) gives (7, unclipped (pos 11) 8) ∷
     -- encode (32758,0): 32767 gives 5 and (32766,4).
-    encode (state (pos 32758) 0) (pos 32767) gives (5, state (pos 32766) 4) ∷
+    encode (unclipped (pos 32758) 0) (pos 32767) gives (5, unclipped (pos 32766) 4) ∷
     -- mono `00 00 00 00 17` decodes to 0, 11, 17 and repacks to itself.
-    decodeMs Strict 1 mono samples gives outcome 0 tt (pos 0 ∷ pos 11 ∷ pos 17 ∷ []) ∷
+    decodeMs Strict 1 mono samples gives outcome 0 noCounts (pos 0 ∷ pos 11 ∷ pos 17 ∷ []) ∷
     repackMs Strict 1 mono bytes gives outcome 0 false mono ∷
     -- mu-law 0x7f decodes to 0, and 0 encodes to 0xff. A-law 0xd5 decodes to 8.
     sampleOf mu-law 0x7f gives pos 0 ∷

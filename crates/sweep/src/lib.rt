@@ -13,7 +13,7 @@ ghost use Rattle.sweep.specs.Answers.{answerOf, sweepCall};
 // answers[k] is the answer to the sample k - 32768. A buffer that is not of 65,536 numbers is refused by 2, and left alone.
 #[no_mangle]
 pub extern "C" fn sweep_encode(predictor: i16, step_index: u8, answers: &mut [u32]) -> u8
-    ensures { λ r. ⌜ outcome r tt (now (answers .exit)) ≡ sweepCall (state predictor «step_index») (now (answers .entry)) ⌝ }
+    ensures { λ r. ⌜ outcome r tt (now (answers .exit)) ≡ sweepCall (state predictor «step_index» 0) (now (answers .entry)) ⌝ }
 {
     if answers.len() != 65536 {
         return 2;
@@ -22,6 +22,7 @@ pub extern "C" fn sweep_encode(predictor: i16, step_index: u8, answers: &mut [u3
     let state = AdpcmImaState {
         predictor,
         step_index,
+        clipped: 0,
     };
     let wide = state.widen();
     let mut k = 0;

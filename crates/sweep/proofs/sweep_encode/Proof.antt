@@ -57,7 +57,7 @@ returns-2 c =
     let end : at .loop .k ≡ 65536 = omega arith in
     let w = wideOf (at .before .widen .result) in
     let done = all (rule w) 65536 (at .loop .answers) (inv .1) (subst (Upto (rule w) 65536 (at .loop .answers)) end (inv .0)) in
-    let from-state = at .before .widen .ensures .0 ∙ ap (λ (p : ℤ). state p (s .args .step-index)) (toZ-ofZ w16 _ (s .fits .predictor)) in
+    let from-state = at .before .widen .ensures .0 ∙ ap (λ (p : ℤ). state p (s .args .step-index) 0) (toZ-ofZ w16 _ (s .fits .predictor)) in
     simp (eq-eqb _ _ (at .before .before .if1 .left)) (ap (outcome 0 tt) (done ∙ ap answersOf from-state))
 
 pub sweep-encode-spec : {M : Type 1} → statement M
