@@ -148,11 +148,7 @@ impl AdpcmImaState {
     pub fn recount(self) -> Self
         ensures { λ r. ⌜ stateOf r ≡ uncounted (stateOf self) ⌝ }
     {
-        Self {
-            predictor: self.predictor,
-            step_index: self.step_index,
-            clipped: 0,
-        }
+        Self::new().reload(self.predictor, self.step_index)
     }
 
     // Equality, by field.
@@ -173,10 +169,11 @@ impl AdpcmImaState {
     pub fn widen(self) -> Wide
         ensures { λ r. ⌜ (wideOf r ≡ stateOf self) × (r .index < 256) ⌝ }
     {
+        let clipped = self.clipped;
         Wide {
             predictor: self.predictor,
             index: self.step_index as usize,
-            clipped: self.clipped,
+            clipped,
         }
     }
 

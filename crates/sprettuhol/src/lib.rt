@@ -256,11 +256,12 @@ pub extern "C" fn spr_decode_ms_lenient(
 fn tell_clipped(answer: ms_decode::Answer, clipped: &mut [u32; MOST]) -> u8
     ensures { λ r. ⌜ outcome r (now (clipped .exit)) tt ≡ told (answer .refusal) (answer .clipped) (now (clipped .entry)) ⌝ }
 {
-    if answer.refusal == 0 {
-        let counts = answer.clipped;
-        *clipped = counts;
+    if answer.refusal != 0 {
+        return answer.refusal;
     }
-    answer.refusal
+    let counts = answer.clipped;
+    *clipped = counts;
+    0
 }
 
 // The states are read and written through three numbers each, for all eight channels.
