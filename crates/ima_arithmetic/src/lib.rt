@@ -58,10 +58,17 @@ pub struct Moved {
 pub fn hold(sum: i32) -> Moved
     ensures { λ r. ⌜ (r .predictor ≡ Clamp.clamp (negsuc 32767) (pos 32767) sum) × (r .clips ≡ Clamp.outside (negsuc 32767) (pos 32767) sum) ⌝ }
 {
-    let predictor = clamp(-32768, 32767, sum) as i16;
+    if outside(-32768, 32767, sum) {
+        let limit = clamp(-32768, 32767, sum) as i16;
+        return Moved {
+            predictor: limit,
+            clips: true,
+        };
+    }
+    let inside = sum as i16;
     Moved {
-        predictor,
-        clips: outside(-32768, 32767, sum),
+        predictor: inside,
+        clips: false,
     }
 }
 

@@ -24,8 +24,8 @@ ghost use Rattle.ima_step.specs.View.{wideOf};
 // read as 88.
 pub struct Wide {
     pub predictor: i16,
-    pub index: usize,
     pub clipped: u32,
+    pub index: usize,
 }
 
 pub struct Coded {

@@ -1,10 +1,12 @@
 -- A clamped number lies between its limits, how large it can be then, and on which side of another it stays. Assumes nothing.
+use mathlib.Core.Path.{_≡_}
+use mathlib.Core.Bool.{false, true≢false}
 use Prim.Native.Nat.{ℕ, _≤_, zero-le}
 use lib.Dec.{leb→le, le→leb}
 use lib.IntN.{ℤ, pos, negsuc, natAbs}
 use lib.Signed.{mag, ltZ, _≤ℤ_, ltZ-yes, ltZ-no, ≤ℤ-refl, clashℤ}
 use borrow.Table.Steps.{cases}
-use Rattle.num.specs.Clamp.{clamp}
+use Rattle.num.specs.Clamp.{clamp, outside}
 use Rattle.num.proofs.Shift.{≤ℤ-trans}
 
 pub clamp-within : {a b : ℤ} → a ≤ℤ b → (x : ℤ) → (a ≤ℤ clamp a b x) × (clamp a b x ≤ℤ b)
@@ -12,6 +14,14 @@ clamp-within {a} {b} h x =
     cases (ltZ x a)
     (λ e. rw e (≤ℤ-refl a, h))
     (λ e. rw e (cases (ltZ b x) (λ f. rw f (h, ≤ℤ-refl b)) (λ f. rw f (ltZ-no (rw e tt), ltZ-no (rw f tt)))))
+
+-- a number that is not outside its limits is its own clamp
+pub clamp-inside : (a b x : ℤ) → outside a b x ≡ false → clamp a b x ≡ x
+unfolding outside
+clamp-inside a b x e =
+    cases (ltZ x a)
+    (λ t. absurd (true≢false (rw t at e)))
+    (λ t. rw t (cases (ltZ b x) (λ u. absurd (true≢false (rw (t, u) at e))) (λ u. rw u)))
 
 -- between -(n + 1) and n
 pub mag-clamp : (n : ℕ) (x : ℤ) → mag (clamp (negsuc n) (pos n) x) ≤ n
