@@ -49,27 +49,34 @@ fn left(r: u32, x: u32) -> u32
     if r < x { r } else { r - x }
 }
 
-// Where an exact sum comes to in 16 bits, and whether it is outside of them.
-pub struct Moved {
+// Where an exact sum comes to in 16 bits, and the count behind it.
+pub struct Held {
     pub predictor: i16,
-    pub clips: bool,
+    pub clipped: u32,
 }
 
-pub fn hold(sum: i32) -> Moved
-    ensures { λ r. ⌜ (r .predictor ≡ Clamp.clamp (negsuc 32767) (pos 32767) sum) × (r .clips ≡ Clamp.outside (negsuc 32767) (pos 32767) sum) ⌝ }
+// A sum that is not outside is taken as it is, by one test; clamping and counting are for the others.
+pub fn hold(sum: i32, clipped: u32) -> Held
+    ensures { λ r. ⌜ (r .predictor ≡ Clamp.clamp (negsuc 32767) (pos 32767) sum) × (r .clipped ≡ tallied 4294967295 (Clamp.outside (negsuc 32767) (pos 32767) sum) clipped) ⌝ }
 {
     if outside(-32768, 32767, sum) {
         let limit = clamp(-32768, 32767, sum) as i16;
-        return Moved {
+        return Held {
             predictor: limit,
-            clips: true,
+            clipped: tally(clipped, true),
         };
     }
     let inside = sum as i16;
-    Moved {
+    Held {
         predictor: inside,
-        clips: false,
+        clipped,
     }
+}
+
+// Where a predictor moves to, and whether that is clipped.
+pub struct Moved {
+    pub predictor: i16,
+    pub clips: bool,
 }
 
 // The predictor goes no further than the room on that side, so its sum needs no clamp. One that would go further clips.

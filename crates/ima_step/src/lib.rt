@@ -40,11 +40,11 @@ impl Wide {
     {
         let place = lesser(self.index, 88);
         let s = step(steps, place);
-        let moved = hold(exact_sum(s, self.predictor, nibble));
+        let held = hold(exact_sum(s, self.predictor, nibble), self.clipped);
         Self {
-            predictor: moved.predictor,
+            predictor: held.predictor,
+            clipped: held.clipped,
             index: next_index(place, nibble),
-            clipped: tally(self.clipped, moved.clips),
         }
     }
 
@@ -64,8 +64,8 @@ impl Wide {
             nibble,
             next: Self {
                 predictor: moved.predictor,
-                index: raise_index(index, four, above),
                 clipped: tally(self.clipped, moved.clips),
+                index: raise_index(index, four, above),
             },
         }
     }

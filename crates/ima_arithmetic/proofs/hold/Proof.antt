@@ -1,6 +1,9 @@
--- `ima_arithmetic::hold` meets its contract: a sum that is not outside is its own clamp, and what is clamped fits 16 bits. Assumes nothing.
+-- `ima_arithmetic::hold` meets its contract: a sum that is not outside is its own clamp, and what is clamped fits 16 bits; only the latter is counted.
+-- Assumes nothing.
 use mathlib.Core.Path.{_≡_, sym, ap, _∙_, subst}
-use Prim.Native.Nat.{_≤_}
+use mathlib.Core.Bool.{Bool, false}
+use Prim.Native.Nat.{ℕ, _≤_}
+use native.Mathlib.Omega.{arith}
 use lib.IntN.{ℤ, pos, negsuc}
 use lib.Signed.{mag}
 use mir.Syntax.{w32}
@@ -9,6 +12,7 @@ use borrow.Author.Needs.{needs}
 use Rattle.num.specs.Clamp.{clamp, outside}
 use Rattle.num.proofs.Signed.{narrows, narrowed}
 use Rattle.num.proofs.Within.{clamp-inside, mag-clamp}
+use Rattle.ima_nibble.specs.Step.{tallied}
 use Rattle.ima_arithmetic.proofs.hold.Statement.{statement}
 use Rattle.ima_arithmetic.proofs.hold.Tie as tie
 
@@ -30,7 +34,12 @@ cast-limit : tie.Need-cast-limit
 cast-limit c = narrows (c .clamp .result) (small c)
 
 returns : tie.Need-returns
-returns c = let test = c .before in (narrowed (c .clamp .result) (small c) ∙ clamped c, sym (test .if1 .taken) ∙ tested (test .before))
+returns c =
+    let at-clamp = c .before in
+    let test = at-clamp .before in
+    let n = test .before .before .args .clipped in
+    let is = sym (test .if1 .taken) ∙ tested (test .before) in
+    (narrowed (at-clamp .clamp .result) (small at-clamp) ∙ clamped at-clamp, c .tally .ensures ∙ ap (λ (b : Bool). tallied 4294967295 b n) is)
 
 -- and one that is not
 inside : (c : tie.Else1) → held (c .before .before .args .sum) ≡ c .before .before .args .sum
@@ -43,7 +52,12 @@ cast-inside : tie.Need-cast-inside
 cast-inside c = narrows (c .before .before .args .sum) (small-inside c)
 
 returns-2 : tie.Need-returns-2
-returns-2 c = (narrowed (c .before .before .args .sum) (small-inside c) ∙ sym (inside c), sym (c .if1 .left) ∙ tested (c .before))
+returns-2 c =
+    let s = c .before .before in
+    let n = s .args .clipped in
+    let stays : n ≡ tallied 4294967295 false n = omega (arith, s .fits .clipped .fits) in
+    let is = sym (c .if1 .left) ∙ tested (c .before) in
+    (narrowed (s .args .sum) (small-inside c) ∙ sym (inside c), stays ∙ ap (λ (b : Bool). tallied 4294967295 b n) is)
 
 pub hold-spec : {M : Type 1} → statement M
-hold-spec = tie.close (tie.spec (λ c κs. search needs) (λ c κs. search needs) cast-limit returns cast-inside returns-2)
+hold-spec = tie.close (tie.spec (λ c κs. search needs) (λ c κs. search needs) cast-limit (λ c κs. search needs) returns cast-inside returns-2)

@@ -1,4 +1,4 @@
--- `ima_step::Wide::decode_step` meets its contract: the predictor and the index are the definition's. Assumes nothing.
+-- `ima_step::Wide::decode_step` meets its contract: all three numbers are the definition's. Assumes nothing.
 use mathlib.Core.Path.{refl}
 use mir.Syntax.{w16, w32}
 use mir.Val.{SFits}
@@ -11,8 +11,7 @@ use Rattle.ima_step.proofs.Wide.decode_step.Tie as tie
 returns : tie.Need-returns
 unfolding stepped stepAt predicted
 returns c =
-    let at-tally = c .before in
-    let at-index = at-tally .before in
+    let at-index = c .before in
     let at-hold = at-index .before in
     let at-sum = at-hold .before in
     let at-step = at-sum .before .before in
@@ -21,8 +20,8 @@ returns c =
     let f : SFits w16 (s .args .self .predictor) = search (needs, at-sum .before .struct-told .given) in
     let g : SFits w16 (at-hold .hold .result .predictor) = search (needs, c .struct-told2 .given) in
     let x : SFits w32 (at-sum .exact-sum .result) = search (needs, at-sum .exact-sum) in
-    rw (toZ-ofZ w16 _ g, at-hold .hold .ensures .0, at-tally .tally .ensures, at-hold .hold .ensures .1, toZ-ofZ w32 _ x, at-sum .exact-sum .ensures, toZ-ofZ w16 _ f, at-index .next-index .ensures, at-step .step .ensures .0, at-place .lesser .ensures) refl
+    rw (toZ-ofZ w16 _ g, at-hold .hold .ensures .0, at-hold .hold .ensures .1, toZ-ofZ w32 _ x, at-sum .exact-sum .ensures, toZ-ofZ w16 _ f, at-index .next-index .ensures, at-step .step .ensures .0, at-place .lesser .ensures) refl
 
 pub decode-step-spec : {M : Type 1} → statement M
 decode-step-spec =
-    tie.close (tie.spec (λ c κs. search needs) (λ c κs. search needs) (λ c κs. search needs) (λ c κs. search needs) (λ c κs. search needs) (λ c κs. search needs) returns)
+    tie.close (tie.spec (λ c κs. search needs) (λ c κs. search needs) (λ c κs. search needs) (λ c κs. search needs) (λ c κs. search needs) returns)
