@@ -40,11 +40,13 @@ impl Wide {
     {
         let place = lesser(self.index, 88);
         let s = step(steps, place);
-        let held = hold(exact_sum(s, self.predictor, nibble), self.clipped);
+        let sum = exact_sum(s, self.predictor, nibble);
+        let index = next_index(place, nibble);
+        let held = hold(sum, self.clipped);
         Self {
             predictor: held.predictor,
             clipped: held.clipped,
-            index: next_index(place, nibble),
+            index,
         }
     }
 
@@ -64,8 +66,8 @@ impl Wide {
             nibble,
             next: Self {
                 predictor: moved.predictor,
-                clipped: tally(self.clipped, moved.clips),
                 index: raise_index(index, four, above),
+                clipped: tally(self.clipped, moved.clips),
             },
         }
     }

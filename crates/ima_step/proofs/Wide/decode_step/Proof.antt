@@ -11,9 +11,9 @@ use Rattle.ima_step.proofs.Wide.decode_step.Tie as tie
 returns : tie.Need-returns
 unfolding stepped stepAt predicted
 returns c =
-    let at-index = c .before in
-    let at-hold = at-index .before in
-    let at-sum = at-hold .before in
+    let at-hold = c .before in
+    let at-index = at-hold .before in
+    let at-sum = at-index .before in
     let at-step = at-sum .before .before in
     let at-place = at-step .before in
     let s = at-place .before in

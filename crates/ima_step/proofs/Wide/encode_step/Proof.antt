@@ -25,9 +25,9 @@ lift i four above = min (i + (3 * four + 2 * above) - 1) 88
 returns : tie.Need-returns
 unfolding nibbleOf stepAt stepped predicted
 returns c =
-    let raised = c .before in
-    let at-tally = raised .before in
-    let moved = at-tally .before in
+    let at-tally = c .before in
+    let raised = at-tally .before in
+    let moved = raised .before in
     let taken = moved .before .before in
     let lower = taken .before in
     let signed = lower .before in
