@@ -31,6 +31,12 @@ impl AdpcmImaState {
             step_index: 0,
         }
     }
+
+    /// Its numbers and a count, as the library is lent them.
+    #[inline]
+    pub(crate) fn lent<'a>(&'a mut self, clipped: &'a mut u32) -> ffi::Lent<'a> {
+        (&mut self.predictor, &mut self.step_index, clipped)
+    }
 }
 
 impl Default for AdpcmImaState {
@@ -57,7 +63,7 @@ impl Default for AdpcmImaState {
 /// ```
 #[inline]
 pub fn decode_adpcm_ima(encoded_nibble: u8, state: &mut AdpcmImaState) -> i16 {
-    ffi::decode_adpcm_ima(encoded_nibble, &mut state.predictor, &mut state.step_index)
+    ffi::decode_adpcm_ima(encoded_nibble, state.lent(&mut 0))
 }
 
 /// The nibble of a sample, in the lowest four bits; the others are 0. The next state takes the place of
@@ -79,5 +85,5 @@ pub fn decode_adpcm_ima(encoded_nibble: u8, state: &mut AdpcmImaState) -> i16 {
 /// ```
 #[inline]
 pub fn encode_adpcm_ima(sample_value: i16, state: &mut AdpcmImaState) -> u8 {
-    ffi::encode_adpcm_ima(sample_value, &mut state.predictor, &mut state.step_index)
+    ffi::encode_adpcm_ima(sample_value, state.lent(&mut 0))
 }

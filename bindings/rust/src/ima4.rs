@@ -111,8 +111,7 @@ pub fn decode_adpcm_ima_ima4_run(
     state: &mut AdpcmImaState,
     out_samples: &mut [i16],
 ) -> Result<(), Refusal> {
-    let (predictor, step_index) = (&mut state.predictor, &mut state.step_index);
-    answer(ffi::decode_ima4(buf, predictor, step_index, out_samples))
+    answer(ffi::decode_ima4(buf, state.lent(&mut 0), out_samples))
 }
 
 /// Encodes a run of 0 to 1,024 ima4 blocks, each from the state that the one before it left. The last
@@ -146,6 +145,5 @@ pub fn encode_adpcm_ima_ima4_run(
     state: &mut AdpcmImaState,
     out_buf: &mut [u8],
 ) -> Result<(), Refusal> {
-    let (predictor, step_index) = (&mut state.predictor, &mut state.step_index);
-    answer(ffi::encode_ima4(samples, predictor, step_index, out_buf))
+    answer(ffi::encode_ima4(samples, state.lent(&mut 0), out_buf))
 }

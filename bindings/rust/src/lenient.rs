@@ -5,7 +5,7 @@
 //! alone. They never answer [`Error::InvalidStepIndex`] or [`Refusal::StepIndex`].
 
 use crate::refusal::{answer, Refusal};
-use crate::{ffi, Error};
+use crate::{ffi, metered, Error};
 
 /// Decodes an MS block as [`decode_adpcm_ima_ms`](crate::decode_adpcm_ima_ms) does, but reads an index
 /// above 88 as 88.
@@ -33,7 +33,7 @@ pub fn decode_adpcm_ima_ms(
     out_samples: &mut [i16],
 ) -> Result<(), Error> {
     let channels = if is_stereo { 2 } else { 1 };
-    Ok(answer(ffi::decode_ms_lenient(channels, buf, out_samples))?)
+    Ok(decode_adpcm_ima_ms_channels(channels, buf, out_samples)?)
 }
 
 /// Decodes an MS block of 1 to 8 channels as
@@ -62,7 +62,7 @@ pub fn decode_adpcm_ima_ms_channels(
     buf: &[u8],
     out_samples: &mut [i16],
 ) -> Result<(), Refusal> {
-    answer(ffi::decode_ms_lenient(channels, buf, out_samples))
+    metered::lenient::decode_adpcm_ima_ms_channels(channels, buf, out_samples).map(|_| ())
 }
 
 /// Repacks an MS block as [`repack_adpcm_ima_ms`](crate::repack_adpcm_ima_ms) does, but takes an index

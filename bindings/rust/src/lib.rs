@@ -40,6 +40,10 @@
 //! The three calls of [`lenient`] take MS blocks with a step index above 88, which those of the same names
 //! here refuse. The constants are those that the C header has as macros.
 //!
+//! The calls of [`metered`] also count clipped steps, those whose exact sum is no 16-bit number. Their
+//! [`State`](metered::State) has the count as a third number. [`AdpcmImaState`] stays as that crate has it, so
+//! the calls at the root do not tell the count.
+//!
 //! # What is proved
 //!
 //! The library behind these functions is: every call ends, is defined for all inputs, and answers what
@@ -60,6 +64,7 @@
 mod ffi;
 
 pub mod lenient;
+pub mod metered;
 
 mod adpcm_ima;
 mod g711;

@@ -1,5 +1,6 @@
 //! MS blocks, of one to eight channels.
 
+use crate::metered::{self, State};
 use crate::refusal::{answer, Refusal};
 use crate::{ffi, AdpcmImaState, Error};
 
@@ -96,7 +97,7 @@ pub fn decode_adpcm_ima_ms(
     out_samples: &mut [i16],
 ) -> Result<(), Error> {
     let channels = if is_stereo { 2 } else { 1 };
-    Ok(answer(ffi::decode_ms(channels, buf, out_samples))?)
+    Ok(decode_adpcm_ima_ms_channels(channels, buf, out_samples)?)
 }
 
 /// Decodes an MS block of 1 to 8 channels, all of `out_samples`. Samples are interleaved: one of each
@@ -162,7 +163,7 @@ pub fn decode_adpcm_ima_ms_channels(
     buf: &[u8],
     out_samples: &mut [i16],
 ) -> Result<(), Refusal> {
-    answer(ffi::decode_ms(channels, buf, out_samples))
+    metered::decode_adpcm_ima_ms_channels(channels, buf, out_samples).map(|_| ())
 }
 
 /// Encodes samples to an MS block, all of `out_buf`. The next states take the place of `states`, of
@@ -220,29 +221,50 @@ pub fn encode_adpcm_ima_ms(
     states: &mut [AdpcmImaState],
     out_buf: &mut [u8],
 ) -> Result<(), Error> {
+    Ok(encode(samples, states, out_buf)?)
+}
+
+/// The same from states of either kind, with a count or without.
+#[inline]
+pub(crate) fn encode<S: Clone + From<State>>(
+    samples: &[i16],
+    states: &mut [S],
+    out_buf: &mut [u8],
+) -> Result<(), Refusal>
+where
+    State: From<S>,
+{
     // over 255 states are told as 255, which is refused as well; wrapped, 257 of them would be 1
     let channels = u8::try_from(states.len()).unwrap_or(u8::MAX);
     // the library is lent eight of each; a state that is not there is zero
     let mut predictors = [0; MS_MOST_CHANNELS];
     let mut step_indices = [0; MS_MOST_CHANNELS];
+    let mut clipped = [0; MS_MOST_CHANNELS];
     let lent = predictors.iter_mut().zip(&mut step_indices);
-    for (state, (predictor, step_index)) in states.iter().zip(lent) {
-        (*predictor, *step_index) = (state.predictor, state.step_index);
+    for (state, ((predictor, step_index), count)) in states.iter().zip(lent.zip(&mut clipped)) {
+        let state = State::from(state.clone());
+        (*predictor, *step_index, *count) = (state.predictor, state.step_index, state.clipped);
     }
-    let number = ffi::encode_ms(
-        channels,
-        samples,
-        &mut predictors,
-        &mut step_indices,
-        out_buf,
-    );
-    answer(number)?;
-    let next = predictors.into_iter().zip(step_indices);
-    for (state, (predictor, step_index)) in states.iter_mut().zip(next) {
-        *state = AdpcmImaState {
+    let lent = (&mut predictors, &mut step_indices, &mut clipped);
+    answer(ffi::encode_ms(channels, samples, lent, out_buf))?;
+    let next = predictors.into_iter().zip(step_indices).zip(clipped);
+    for (state, ((predictor, step_index), clipped)) in states.iter_mut().zip(next) {
+        let next = State {
             predictor,
             step_index,
+            clipped,
         };
+        *state = next.into();
     }
     Ok(())
+}
+
+/// The counts that a decoder tells, if it is not refused.
+#[inline]
+pub(crate) fn counts(
+    decode: impl FnOnce(&mut [u32; MS_MOST_CHANNELS]) -> u8,
+) -> Result<[u32; MS_MOST_CHANNELS], Refusal> {
+    let mut clipped = [0; MS_MOST_CHANNELS];
+    answer(decode(&mut clipped))?;
+    Ok(clipped)
 }

@@ -1,7 +1,7 @@
 //! The index of a run of ima4 blocks, by which decoding starts at any of them.
 
 use crate::refusal::{answer, Refusal};
-use crate::{ffi, AdpcmImaState, IMA4_MOST_BLOCKS};
+use crate::{ffi, metered, AdpcmImaState, IMA4_MOST_BLOCKS};
 
 /// How many bytes the index of a run has, with a state for each `every` blocks: 4, and 3 for each state.
 /// It is 0 where [`index_adpcm_ima_ima4`] refuses the number of blocks or `every`.
@@ -75,10 +75,7 @@ pub fn index_adpcm_ima_ima4(
     every: u8,
     out_index: &mut [u8],
 ) -> Result<(), Refusal> {
-    let (predictor, step_index) = (&mut state.predictor, &mut state.step_index);
-    answer(ffi::ima4_index(
-        buf, every, predictor, step_index, out_index,
-    ))
+    answer(ffi::ima4_index(buf, every, state.lent(&mut 0), out_index))
 }
 
 /// Indexes a run again, whose blocks from block `from` on were replaced, one for one.
@@ -164,10 +161,5 @@ pub fn decode_adpcm_ima_ima4_from(
     from: usize,
     out_samples: &mut [i16],
 ) -> Result<AdpcmImaState, Refusal> {
-    // the library only writes it
-    let mut state = AdpcmImaState::new();
-    let (predictor, step_index) = (&mut state.predictor, &mut state.step_index);
-    let number = ffi::decode_ima4_from(buf, index, from, predictor, step_index, out_samples);
-    answer(number)?;
-    Ok(state)
+    metered::decode_adpcm_ima_ima4_from(buf, index, from, out_samples).map(AdpcmImaState::from)
 }
