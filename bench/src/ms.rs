@@ -152,17 +152,17 @@ fn decode(blocks: Blocks) -> Row {
     Row::new("decode_ms", blocks.name, blocks.number, None, round)
 }
 
-/// Ours is lent two arrays, as over C, and the Rust its states.
+/// Ours is lent three arrays, as over C, and the Rust its states.
 fn encode(blocks: Blocks) -> Row {
-    type State = ([i16; 8], [u8; 8], States);
+    type State = ([i16; 8], [u8; 8], [u32; 8], States);
     let channels = blocks.channels;
     let (to, from) = lengths(blocks.size, channels);
     let round = round(
         [blocks.samples.len(); 2],
         (blocks.samples, from),
         to,
-        move |samples, (predictors, indices, _): &mut State, block| {
-            ffi::encode_ms(channels, samples, predictors, indices, block)
+        move |samples, (predictors, indices, clipped, _): &mut State, block| {
+            ffi::encode_ms(channels, samples, (predictors, indices, clipped), block)
         },
         move |samples, (.., states): &mut State, block| {
             oracle::encode(channels, samples, states, block)

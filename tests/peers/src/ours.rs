@@ -31,14 +31,17 @@ fn together(codec: Codec) -> usize {
 pub fn decode_into(codec: Codec, coded: &Coded, samples: &mut [i16]) {
     let Coded { bytes, block } = coded;
     let (most, each) = (together(codec), codec.samples(*block));
-    let (mut predictor, mut index) = (0, 0);
+    let (mut predictor, mut index, mut clipped) = (0, 0, 0);
     let places = samples.chunks_mut(most.saturating_mul(each));
     for (bytes, samples) in bytes.chunks(most.saturating_mul(*block)).zip(places) {
         done(match codec {
             Codec::Ulaw => law(bytes, samples, ffi::decode_ulaw),
             Codec::Alaw => law(bytes, samples, ffi::decode_alaw),
-            Codec::Ms(channels) => ffi::decode_ms_lenient(channels, bytes, samples),
-            Codec::Ima4 => ffi::decode_ima4(bytes, &mut predictor, &mut index, samples),
+            Codec::Ms(channels) => ffi::decode_ms_lenient(channels, bytes, samples, &mut [0; 8]),
+            Codec::Ima4 => {
+                let state = (&mut predictor, &mut index, &mut clipped);
+                ffi::decode_ima4(bytes, state, samples)
+            }
         });
     }
 }
@@ -47,15 +50,21 @@ pub fn decode_into(codec: Codec, coded: &Coded, samples: &mut [i16]) {
 pub fn encode_into(codec: Codec, samples: &[i16], coded: &mut Coded) {
     let Coded { bytes, block } = coded;
     let (most, each) = (together(codec), codec.samples(*block));
-    let (mut predictors, mut indices) = ([0; 8], [0; 8]);
+    let (mut predictors, mut indices, mut clipped) = ([0; 8], [0; 8], [0; 8]);
     let samples = &samples[..bytes.len() / *block * each];
     let runs = samples.chunks(most.saturating_mul(each));
     for (run, bytes) in runs.zip(bytes.chunks_mut(most.saturating_mul(*block))) {
         done(match codec {
             Codec::Ulaw => law(run, bytes, ffi::encode_ulaw),
             Codec::Alaw => law(run, bytes, ffi::encode_alaw),
-            Codec::Ms(wide) => ffi::encode_ms(wide, run, &mut predictors, &mut indices, bytes),
-            Codec::Ima4 => ffi::encode_ima4(run, &mut predictors[0], &mut indices[0], bytes),
+            Codec::Ms(wide) => {
+                let states = (&mut predictors, &mut indices, &mut clipped);
+                ffi::encode_ms(wide, run, states, bytes)
+            }
+            Codec::Ima4 => {
+                let state = (&mut predictors[0], &mut indices[0], &mut clipped[0]);
+                ffi::encode_ima4(run, state, bytes)
+            }
         });
     }
 }

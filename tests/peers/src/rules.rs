@@ -88,12 +88,8 @@ impl Rule {
             }
             if !out {
                 let mut decoded = [0; 64];
-                ours::done(ffi::decode_ima4(
-                    block,
-                    &mut predictor,
-                    &mut index,
-                    &mut decoded,
-                ));
+                let state = (&mut predictor, &mut index, &mut 0);
+                ours::done(ffi::decode_ima4(block, state, &mut decoded));
                 samples.extend(decoded);
             }
         }
@@ -128,7 +124,7 @@ impl Rule {
 
     fn nibble(self, (mut predictor, mut index): State, sample: i16) -> u8 {
         if !self.has(QUOTIENT) {
-            return ffi::encode_adpcm_ima(sample, &mut predictor, &mut index);
+            return ffi::encode_adpcm_ima(sample, (&mut predictor, &mut index, &mut 0));
         }
         let by = i32::from(sample) - i32::from(predictor);
         let magnitude = (4 * by.abs() / step(index)).min(7) as u8;
@@ -137,7 +133,7 @@ impl Rule {
 
     fn moved(self, (before, index): State, nibble: u8) -> State {
         let (mut predictor, mut next) = (before, index);
-        ffi::decode_adpcm_ima(nibble, &mut predictor, &mut next);
+        ffi::decode_adpcm_ima(nibble, (&mut predictor, &mut next, &mut 0));
         if self.has(PRODUCT) {
             let by = ((2 * i32::from(nibble & 7) + 1) * step(index)) >> 3;
             let sum = i32::from(before) + if nibble & 8 == 0 { by } else { -by };
@@ -151,7 +147,8 @@ impl Rule {
 fn step(index: u8) -> i32 {
     let from_lowest = |nibble| {
         let (mut predictor, mut index) = (i16::MIN, index);
-        i32::from(ffi::decode_adpcm_ima(nibble, &mut predictor, &mut index))
+        let state = (&mut predictor, &mut index, &mut 0);
+        i32::from(ffi::decode_adpcm_ima(nibble, state))
     };
     from_lowest(4) - from_lowest(0)
 }
