@@ -1,6 +1,7 @@
 //! A run of ima4 blocks, in one shape for both sides: blocks in, blocks out, and a state that is handed
 //! from block to block and back to the caller. The number that comes back is 0 when all is done. A state
-//! is a predictor and a step index. bench/ uses this file too.
+//! is a predictor and a step index. What ours counts of clipped steps is not looked at here, for the oracle does
+//! not count them. bench/ uses this file too.
 
 /// A block has 34 bytes, two of them its header, and 64 samples.
 pub const BYTES: usize = 34;
@@ -16,12 +17,12 @@ pub mod ours {
 
     #[inline(always)]
     pub fn decode(bytes: &[u8], (predictor, index): &mut State, samples: &mut [i16]) -> u8 {
-        ffi::decode_ima4(bytes, predictor, index, samples)
+        ffi::decode_ima4(bytes, (predictor, index, &mut 0), samples)
     }
 
     #[inline(always)]
     pub fn encode(samples: &[i16], (predictor, index): &mut State, bytes: &mut [u8]) -> u8 {
-        ffi::encode_ima4(samples, predictor, index, bytes)
+        ffi::encode_ima4(samples, (predictor, index, &mut 0), bytes)
     }
 }
 

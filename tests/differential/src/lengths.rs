@@ -12,26 +12,31 @@ use std::collections::BTreeSet;
 use std::fmt::Debug;
 
 /// What a call returns that refuses its buffers.
-const REFUSED: u8 = 3;
+pub const REFUSED: u8 = 3;
 /// No length is longer, of bytes or of samples.
 const LONGEST: usize = 2 * MOST * SAMPLES + 1;
 /// An index above the table stays as it was, too.
 const STATES: [State; 4] = [(0, 0), (-12345, 200), (i16::MIN, 255), (i16::MAX, 88)];
 
-/// All lengths of bytes with all lengths of samples, those that fit among them. Compared are the number,
-/// the buffer with the room about it, and both numbers of the state.
+/// Compared are the number, the buffer with the room about it, and both numbers of the state.
 pub fn report(progress: bool) -> Report {
     let report = Report::start(progress, "ima4 lengths");
+    each_pair(|bytes, samples| {
+        let taken = taken(bytes.len(), samples.len());
+        compare(&report, &DECODE, taken, bytes, samples.len());
+        compare(&report, &ENCODE, taken, samples, bytes.len());
+    });
+    report
+}
+
+/// Calls `work` on all lengths of bytes with all lengths of samples, those that fit among them.
+pub fn each_pair(work: impl Fn(&[u8], &[i16]) + Sync) {
     let (bytes, samples) = (random(1, LONGEST), noise(1, LONGEST));
     each(lengths(BYTES).into_iter(), |bytes_len| {
         for samples_len in lengths(SAMPLES) {
-            let taken = taken(bytes_len, samples_len);
-            let (bytes, samples) = (&bytes[..bytes_len], &samples[..samples_len]);
-            compare(&report, &DECODE, taken, bytes, samples_len);
-            compare(&report, &ENCODE, taken, samples, bytes_len);
+            work(&bytes[..bytes_len], &samples[..samples_len]);
         }
     });
-    report
 }
 
 /// One off either side of some numbers of blocks, and what looks like one block or none to whoever
@@ -45,7 +50,7 @@ fn lengths(block: usize) -> BTreeSet<usize> {
 }
 
 /// The rule: 0 to 1,024 blocks, with 34 bytes and 64 samples for each.
-fn taken(bytes: usize, samples: usize) -> bool {
+pub fn taken(bytes: usize, samples: usize) -> bool {
     (0..=1024).any(|blocks| bytes == 34 * blocks && samples == 64 * blocks)
 }
 

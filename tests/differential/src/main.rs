@@ -10,6 +10,7 @@
 mod adpcm_ima;
 mod blocks;
 mod calls;
+mod clips;
 mod cuts;
 mod domain;
 mod exhaustive;
@@ -66,6 +67,7 @@ fn main() -> ExitCode {
     reports.extend(ms::reports(chunks.is_some()));
     reports.extend(repack::reports(chunks.is_some()));
     reports.extend(loss::reports(chunks.is_some()));
+    reports.extend(clips::reports(chunks.is_some()));
     reports.extend(chunks.map(exhaustive::encode));
     verdict(&reports)
 }

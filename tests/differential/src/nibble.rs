@@ -1,6 +1,6 @@
 //! One nibble of IMA ADPCM, in one shape for both sides: an input and the state before it, an answer and
-//! the state after it, all plain numbers. A state is a predictor and a step index. bench/ uses this file
-//! too.
+//! the state after it, all plain numbers. A state is a predictor and a step index. What ours counts of clipped
+//! steps is not looked at here, for the oracle does not count them. bench/ uses this file too.
 
 /// A nibble (any byte), or a sample, with the state before it.
 pub type Before<T> = (T, i16, u8);
@@ -13,13 +13,13 @@ pub mod ours {
 
     #[inline(always)]
     pub fn decode((nibble, mut predictor, mut index): Before<u8>) -> After<i16> {
-        let sample = ffi::decode_adpcm_ima(nibble, &mut predictor, &mut index);
+        let sample = ffi::decode_adpcm_ima(nibble, (&mut predictor, &mut index, &mut 0));
         (sample, predictor, index)
     }
 
     #[inline(always)]
     pub fn encode((sample, mut predictor, mut index): Before<i16>) -> After<u8> {
-        let nibble = ffi::encode_adpcm_ima(sample, &mut predictor, &mut index);
+        let nibble = ffi::encode_adpcm_ima(sample, (&mut predictor, &mut index, &mut 0));
         (nibble, predictor, index)
     }
 }

@@ -3,11 +3,11 @@
 //! one block. What the scope names is held at the end.
 
 mod both;
-mod calls;
+pub mod calls;
 mod damage;
-mod lengths;
+pub mod lengths;
 mod numbers;
-mod runs;
+pub mod runs;
 
 use crate::report::Report;
 

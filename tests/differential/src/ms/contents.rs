@@ -10,7 +10,7 @@ use crate::parallel::each;
 use crate::report::Report;
 use crate::runs::{self, random, spoilt};
 
-fn states() -> [States; 4] {
+pub fn states() -> [States; 4] {
     [
         [(0, 0); 8],
         eight([(0, 88), (i16::MIN, 1)]),

@@ -11,7 +11,7 @@ pub mod ours {
 
     #[inline(always)]
     pub fn index(bytes: &[u8], every: u8, (predictor, index): &mut State, record: &mut [u8]) -> u8 {
-        ffi::ima4_index(bytes, every, predictor, index, record)
+        ffi::ima4_index(bytes, every, (predictor, index, &mut 0), record)
     }
 
     #[inline(always)]
@@ -22,7 +22,7 @@ pub mod ours {
         (predictor, index): &mut State,
         samples: &mut [i16],
     ) -> u8 {
-        ffi::decode_ima4_from(bytes, record, from, predictor, index, samples)
+        ffi::decode_ima4_from(bytes, record, from, (predictor, index, &mut 0), samples)
     }
 
     #[inline(always)]

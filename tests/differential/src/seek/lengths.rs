@@ -19,6 +19,27 @@ const STATES: [State; 2] = [(-12345, 200), (i16::MAX, 88)];
 /// Compared are the number, the state, and the buffer with the room about it.
 pub fn report(progress: bool) -> Report {
     let report = Report::start(progress, "seek lengths");
+    let indexed = |bytes: &[u8], every, record: &[u8]| {
+        for state in STATES {
+            both::index(&report, "", bytes, every, state, record.len());
+        }
+    };
+    let decoded = |every, bytes: &[u8], record: &[u8], from, lengths: BTreeSet<usize>| {
+        both::reindex(&report, every, bytes, record, from);
+        for len in lengths {
+            both::decode(&report, every, bytes, record, from, len);
+        }
+    };
+    each_length(indexed, decoded);
+    report
+}
+
+/// Calls `indexed` on runs, distances and records, and `decoded` on these with blocks to start from and lengths
+/// of samples.
+pub fn each_length(
+    indexed: impl Fn(&[u8], u8, &[u8]) + Sync,
+    decoded: impl Fn(u8, &[u8], &[u8], usize, BTreeSet<usize>) + Sync,
+) {
     let all = random(1, LONGEST);
     let parts = runs()
         .into_iter()
@@ -26,19 +47,13 @@ pub fn report(progress: bool) -> Report {
     each(parts, |(len, every)| {
         let (bytes, blocks) = (&all[..len], len / BYTES % 65_536);
         for record in records(blocks, every) {
-            for state in STATES {
-                both::index(&report, "", bytes, every, state, record.len());
-            }
+            indexed(bytes, every, &record);
             for from in froms(blocks) {
-                both::reindex(&report, every, bytes, &record, from);
-                for samples in samples(blocks, from) {
-                    both::decode(&report, every, bytes, &record, from, samples);
-                }
+                decoded(every, bytes, &record, from, samples(blocks, from));
             }
         }
     });
     assert!(all == random(1, LONGEST), "a call wrote to what it reads");
-    report
 }
 
 /// One off either side of some numbers of blocks, and what looks short to whoever counts with 16 bits.

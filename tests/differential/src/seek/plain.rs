@@ -111,7 +111,7 @@ fn keep(record: &mut [u8], number: usize, (predictor, index): State) {
     record[4 + 3 * number..][..3].copy_from_slice(&[high, low, index]);
 }
 
-fn kept(record: &[u8], number: usize) -> State {
+pub fn kept(record: &[u8], number: usize) -> State {
     let at = 4 + 3 * number;
     let predictor = i16::from_be_bytes([record[at], record[at + 1]]);
     (predictor, record[at + 2])
