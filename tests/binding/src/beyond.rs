@@ -81,21 +81,11 @@ pub fn told(answer: Result<&str, Refusal>) -> String {
     answer.map_or_else(words, String::from)
 }
 
-/// Every second time the blocks are the Rust's own, at whose headers the state is kept.
 fn decode_run(seed: u64) -> Both {
     let random = &mut random(seed);
-    let run @ (_, bytes_len, samples_len) = run_lengths(random);
-    let mut buf = bytes(random, bytes_len);
-    if seed % 2 == 0 {
-        let samples = samples(random, bytes_len / 34 * 64);
-        encode_blocks(&samples, &mut AdpcmImaState::new(), &mut buf);
-    }
+    let (run @ (.., samples_len), buf) = run_to_decode(random);
     let binding = |state: &mut _, out: &mut [_]| decode_adpcm_ima_ima4_run(&buf, state, out);
-    let rust = |state: &mut _, out: &mut [_]| {
-        for (block, out) in buf.chunks_exact(34).zip(out.chunks_exact_mut(64)) {
-            decode_adpcm_ima_ima4(block.try_into().unwrap(), state, out.try_into().unwrap());
-        }
-    };
+    let rust = |state: &mut _, out: &mut [_]| decode_blocks(&buf, state, out);
     let call = "decode_adpcm_ima_ima4_run";
     both_runs(call, random, run, samples_len, rust, binding)
 }
@@ -110,14 +100,33 @@ fn encode_run(seed: u64) -> Both {
     both_runs(call, random, run, bytes_len, rust, binding)
 }
 
+pub fn decode_blocks(buf: &[u8], state: &mut AdpcmImaState, out: &mut [i16]) {
+    for (block, out) in buf.chunks_exact(34).zip(out.chunks_exact_mut(64)) {
+        decode_adpcm_ima_ima4(block.try_into().unwrap(), state, out.try_into().unwrap());
+    }
+}
+
 pub fn encode_blocks(samples: &[i16], state: &mut AdpcmImaState, out: &mut [u8]) {
     for (block, out) in samples.chunks_exact(64).zip(out.chunks_exact_mut(34)) {
         encode_adpcm_ima_ima4(block.try_into().unwrap(), state, out.try_into().unwrap());
     }
 }
 
+/// Every second time the blocks are the Rust's own, at whose headers the state is kept.
+pub fn run_to_decode(random: &mut Random) -> (Run, Vec<u8>) {
+    let run @ (_, bytes_len, _) = run_lengths(random);
+    let mut buf = bytes(random, bytes_len);
+    if pick(random, &[true, false]) {
+        let samples = samples(random, bytes_len / 34 * 64);
+        encode_blocks(&samples, &mut AdpcmImaState::new(), &mut buf);
+    }
+    (run, buf)
+}
+
 /// A number of blocks; and how many bytes and samples, which fit it more often than not.
-fn run_lengths(random: &mut Random) -> (usize, usize, usize) {
+pub type Run = (usize, usize, usize);
+
+pub fn run_lengths(random: &mut Random) -> Run {
     let long = pick(random, &[1024, 1025]);
     let blocks = pick(random, &[0, 1, 2, 7, 7, 7, 7, long]);
     let off = |len: usize, block| [len + 1, len.saturating_sub(1), len + block];
@@ -129,20 +138,27 @@ fn run_lengths(random: &mut Random) -> (usize, usize, usize) {
     }
 }
 
+/// How many blocks a run has, if the lengths fit, and whether it is refused.
+pub fn run_of((blocks, bytes, samples): Run) -> (String, Option<&'static str>) {
+    let fits = bytes == 34 * blocks && samples == 64 * blocks;
+    let of = fits.then(|| blocks.to_string());
+    let refusal = (!fits || blocks > 1024).then_some(REFUSALS[2]);
+    (of.unwrap_or("unfitting".into()), refusal)
+}
+
 /// A run by both, from one state at random, into a buffer of that length.
 fn both_runs<T: Copy + From<u8> + Into<i32>>(
     call: &'static str,
     random: &mut Random,
-    (blocks, bytes, samples): (usize, usize, usize),
+    run @ (_, bytes, samples): Run,
     len: usize,
     rust: impl FnOnce(&mut AdpcmImaState, &mut [T]),
     binding: impl FnOnce(&mut sprettuhol::AdpcmImaState, &mut [T]) -> Result<(), Refusal>,
 ) -> Both {
     let (predictor, step_index) = (sample(random), index(random));
-    let fits = bytes == 34 * blocks && samples == 64 * blocks;
+    let (of, refusal) = run_of(run);
     let outcome = |answer: &str, all: &[T], state: [i32; 2]| {
-        let of = fits.then(|| blocks.to_string());
-        let answer = format!("{}: {answer}", of.unwrap_or("unfitting".into()));
+        let answer = format!("{of}: {answer}");
         let given = format!("{bytes} bytes, {samples} samples");
         (call, answer, given, [numbers(all), state.to_vec()].concat())
     };
@@ -151,9 +167,12 @@ fn both_runs<T: Copy + From<u8> + Into<i32>>(
         predictor,
         step_index,
     };
-    let taken = fits && blocks <= 1024;
-    let (done, all) = lent(len, |out| taken.then(|| rust(&mut state, out)));
-    let answer = done.map_or(REFUSALS[2], |()| "done");
+    let (answer, all) = lent(len, |out| {
+        refusal.unwrap_or_else(|| {
+            rust(&mut state, out);
+            "done"
+        })
+    });
     let state = [state.predictor.into(), state.step_index.into()];
     let expected = outcome(answer, &all, state);
 
@@ -177,7 +196,7 @@ fn decode_lenient(seed: u64) -> Both {
 
 /// A channel number, most often one that is taken; a block at random, or what the Rust's encoder makes of samples,
 /// if it takes them; and a number of samples, which fits more often than not.
-fn ms_block(random: &mut Random) -> (u8, Vec<u8>, usize) {
+pub fn ms_block(random: &mut Random) -> (u8, Vec<u8>, usize) {
     let others = pick(random, &[0, 9, 255]);
     let channels = pick(random, &[1, 2, 3, 4, 5, 6, 7, 8, others]);
     let (block_len, samples_len) = lengths(random, channels.into());
@@ -207,8 +226,6 @@ fn by_rust<T: From<u8>>(
     }
 }
 
-type Decode = fn(u8, &[u8], &mut [i16]) -> Result<(), Refusal>;
-
 fn decode_channels(seed: u64) -> Both {
     let call = "decode_adpcm_ima_ms_channels";
     both_decodings(call, seed, strict::refuses, decode_adpcm_ima_ms_channels)
@@ -220,11 +237,11 @@ fn decode_channels_lenient(seed: u64) -> Both {
     both_decodings(call, seed, |_, _| false, binding)
 }
 
-fn both_decodings(
+pub fn both_decodings(
     call: &'static str,
     seed: u64,
     refuses: fn(u8, &[u8]) -> bool,
-    binding: Decode,
+    binding: impl FnOnce(u8, &[u8], &mut [i16]) -> Result<(), Refusal>,
 ) -> Both {
     let (channels, block, len) = ms_block(&mut random(seed));
     let outcome = |answer: &str, all: &[i16]| {

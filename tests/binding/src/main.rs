@@ -1,9 +1,12 @@
 //! Makes the same calls at random with audio_codec_algorithms and with the proved library in its place,
 //! from one source that is compiled with each (../calls.rs), and compares all that they leave. The calls
-//! that the binding adds are held to the Rust too (beyond.rs, seek.rs). Any difference fails the run, and
-//! so does an answer that never came, or was not due.
+//! that the binding adds are held to the Rust too (beyond.rs, seek.rs), and the counts of clipped steps to a plain
+//! loop (metered.rs). Any difference fails the run, and so does an answer that never came, or was not due.
 
 mod beyond;
+#[path = "../../differential/src/clips/plain.rs"]
+mod clips;
+mod metered;
 #[path = "../../differential/src/ms/oracle.rs"]
 mod oracle;
 #[path = "../../differential/src/loss/plain.rs"]
@@ -24,7 +27,7 @@ const SEEDS: u64 = 6_000;
 const PRINTED: u64 = 3;
 
 /// Each call; and all the answers that have to come, each after what it has to come for.
-const ANSWERS: [(&str, Answers); KINDS + beyond::CALLS.len() + seek::CALLS.len()] = [
+const ANSWERS: [(&str, Answers); CALLS] = [
     ("decode_alaw", &[("any", DONE)]),
     ("encode_alaw", &[("any", DONE)]),
     ("decode_ulaw", &[("any", DONE)]),
@@ -38,10 +41,7 @@ const ANSWERS: [(&str, Answers); KINDS + beyond::CALLS.len() + seek::CALLS.len()
         "decode_adpcm_ima_ms",
         &[(BLOCKS, DONE), (BLOCKS, SIZE), (BLOCKS, "InvalidStepIndex")],
     ),
-    (
-        "encode_adpcm_ima_ms",
-        &[(TAKEN, DONE), (TAKEN, SIZE), (OTHERS, CHANNELS)],
-    ),
+    ("encode_adpcm_ima_ms", ENCODINGS),
     ("decode_adpcm_ima_ima4_run", &beyond::RUNS),
     ("encode_adpcm_ima_ima4_run", &beyond::RUNS),
     (
@@ -63,7 +63,21 @@ const ANSWERS: [(&str, Answers); KINDS + beyond::CALLS.len() + seek::CALLS.len()
     ("index_adpcm_ima_ima4", &seek::INDEXED),
     ("reindex_adpcm_ima_ima4", &seek::REINDEXED),
     ("decode_adpcm_ima_ima4_from", &seek::DECODED),
+    ("metered::State", &[("any", DONE)]),
+    ("metered::decode_adpcm_ima", &metered::STEPS),
+    ("metered::encode_adpcm_ima", &metered::STEPS),
+    ("metered::decode_adpcm_ima_ima4_run", &beyond::RUNS),
+    ("metered::encode_adpcm_ima_ima4_run", &beyond::RUNS),
+    ("metered::index_adpcm_ima_ima4", &seek::INDEXED),
+    ("metered::decode_adpcm_ima_ima4_from", &seek::DECODED),
+    ("metered::encode_adpcm_ima_ms", ENCODINGS),
+    ("metered::decode_adpcm_ima_ms_channels", &beyond::DECODINGS),
+    (
+        "metered::lenient::decode_adpcm_ima_ms_channels",
+        all_but_last(&beyond::DECODINGS),
+    ),
 ];
+const CALLS: usize = KINDS + beyond::CALLS.len() + seek::CALLS.len() + metered::CALLS.len();
 type Answers = &'static [(&'static str, &'static str)];
 const DONE: &str = "done";
 const SIZE: &str = "InvalidBufferSize";
@@ -75,6 +89,8 @@ const BLOCKS: &str = "1 random | 1 long random | 2 random | 2 long random | \
     1 encoded | 1 long encoded | 2 encoded | 2 long encoded";
 const OTHERS: &str = "0 | 0 long | 9 | 9 long | 255 | 255 long | 256 | 256 long | \
     257 | 257 long | 258 | 258 long";
+
+const ENCODINGS: Answers = &[(TAKEN, DONE), (TAKEN, SIZE), (OTHERS, CHANNELS)];
 
 const fn all_but_last(answers: Answers) -> Answers {
     answers.split_at(answers.len() - 1).0
@@ -93,6 +109,7 @@ fn main() -> ExitCode {
     let tallies = (0..KINDS).map(|kind| tally(|seed| twice(kind, seed)));
     let tallies = tallies.chain(beyond::CALLS.map(tally));
     let tallies = tallies.chain(seek::CALLS.map(tally));
+    let tallies = tallies.chain(metered::CALLS.map(tally));
     // all of them are gone through, so that a call which differs hides no other
     let held = tallies.zip(ANSWERS).filter(holds).count();
     println!("{held} of {} calls hold", ANSWERS.len());
@@ -179,7 +196,7 @@ fn holds((tally, (call, answers)): &(Tally, (&'static str, Answers))) -> bool {
     let compared: u64 = came.values().sum();
     let refused = compared - accepted;
     println!(
-        "{call:<38}{compared} compared: {accepted} accepted, {refused} refused; {differ} differ"
+        "{call:<47}{compared} compared: {accepted} accepted, {refused} refused; {differ} differ"
     );
     let came: BTreeSet<_> = came.keys().cloned().collect();
     let each = |&(all, answer): &(&'static str, &'static str)| {

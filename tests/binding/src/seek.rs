@@ -27,7 +27,7 @@ pub const DECODED: [(&str, &str); 3] = [
     ("every | length | version | count | from", REFUSALS[3]),
 ];
 
-fn refusal(of: &str) -> Option<&'static str> {
+pub fn refusal(of: &str) -> Option<&'static str> {
     match of {
         "none" | "few" | "many" => None,
         "bytes" | "samples" => Some(REFUSALS[2]),
@@ -41,7 +41,7 @@ fn first(of: &'static str, then: Option<&'static str>) -> &'static str {
 }
 
 /// Of each block the state before it, as an index has it, and the samples.
-fn decoded(buf: &[u8], state: &mut AdpcmImaState) -> Vec<([u8; 3], [i16; 64])> {
+pub fn decoded(buf: &[u8], state: &mut AdpcmImaState) -> Vec<([u8; 3], [i16; 64])> {
     let decode = |block: &[u8]| {
         let ([high, low], index) = (state.predictor.to_be_bytes(), state.step_index);
         let mut samples = [0; 64];
@@ -58,14 +58,14 @@ fn states(buf: &[u8], every: u8, state: &mut AdpcmImaState) -> Vec<u8> {
     kept.flat_map(|(before, _)| *before).collect()
 }
 
-fn indexed(buf: &[u8], every: u8, state: &mut AdpcmImaState) -> Vec<u8> {
+pub fn indexed(buf: &[u8], every: u8, state: &mut AdpcmImaState) -> Vec<u8> {
     let states = states(buf, every, state);
     let [high, low] = (2 + states.len() as u16).to_be_bytes();
     [vec![high, low, 1, every], states].concat()
 }
 
 /// The last block at or before this one that has a state, and the state.
-fn start(index: &[u8], from: usize) -> (usize, AdpcmImaState) {
+pub fn start(index: &[u8], from: usize) -> (usize, AdpcmImaState) {
     let number = from / usize::from(index[3]);
     let state = &index[4 + 3 * number..];
     let state = AdpcmImaState {
@@ -114,17 +114,21 @@ fn another(random: &mut Random, len: usize) -> usize {
     pick(random, &[len - 1, len + 1, len + 3, 3, 0])
 }
 
-fn index(seed: u64) -> Both {
-    let random = &mut random(seed);
-    let (of, buf, mut state) = run(random);
-    let (every, blocks) = (any_every(random), buf.len() / 34);
-    let fitting = 4 + 3 * blocks.div_ceil(every.into());
+/// What does not fit first; the run and the state; how far apart states are kept, and how long the index is.
+pub fn to_index(random: &mut Random) -> (&'static str, Vec<u8>, AdpcmImaState, u8, usize) {
+    let (of, buf, state) = run(random);
+    let every = any_every(random);
+    let fitting = 4 + 3 * (buf.len() / 34).div_ceil(every.into());
     let (then, every, len) = match below(random, 6) {
         0 => (Some("every"), no_every(random), fitting),
         1 => (Some("length"), every, another(random, fitting)),
         _ => (None, every, fitting),
     };
-    let of = first(of, then);
+    (first(of, then), buf, state, every, len)
+}
+
+fn index(seed: u64) -> Both {
+    let (of, buf, mut state, every, len) = to_index(&mut random(seed));
     let outcome = |answer: &str, all: &[u8], state: (i16, u8), size: usize| {
         let answer = format!("{of}: {answer}");
         let given = format!("{} bytes by {every} to {len}, {state:?}, {size}", buf.len());
@@ -138,8 +142,11 @@ fn index(seed: u64) -> Both {
             "done"
         })
     });
-    let none = then == Some("every") || blocks > 1024;
-    let size = if none { 0 } else { fitting };
+    let blocks = buf.len() / 34;
+    let size = match every {
+        1..=64 if blocks <= 1024 => 4 + 3 * blocks.div_ceil(every.into()),
+        _ => 0,
+    };
     let expected = outcome(answer, &all, (state.predictor, state.step_index), size);
 
     let mut state = sprettuhol::AdpcmImaState {
@@ -200,7 +207,7 @@ fn spoil(random: &mut Random, index: &mut Vec<u8>) -> Option<&'static str> {
 }
 
 /// What a call is given; of the index the head and the length.
-fn given(buf: &[u8], index: &[u8], from: usize) -> String {
+pub fn given(buf: &[u8], index: &[u8], from: usize) -> String {
     let (bytes, len) = (buf.len(), index.len());
     let head = &index[..len.min(4)];
     format!("{bytes} bytes from {from}, {head:?} of {len}")
@@ -233,13 +240,18 @@ fn reindex(seed: u64) -> Both {
     (expected, outcome(&told(answer.map(|()| "done")), &all))
 }
 
-fn decode_from(seed: u64) -> Both {
-    let random = &mut random(seed);
+/// The same, and how many samples there is room for.
+pub fn to_decode(random: &mut Random) -> (&'static str, Vec<u8>, Vec<u8>, usize, usize) {
     let (of, buf, index, from) = trial(random);
     let fitting = 64 * (buf.len() / 34).saturating_sub(from);
     let other = pick(random, &[fitting + 1, fitting + 64, fitting.max(1) - 1]);
     let len = pick(random, &[fitting, fitting, fitting, fitting, other]);
     let of = first(of, (len != fitting).then_some("samples"));
+    (of, buf, index, from, len)
+}
+
+fn decode_from(seed: u64) -> Both {
+    let (of, buf, index, from, len) = to_decode(&mut random(seed));
     let outcome = |answer: &str, all: &[i16], state: Option<(i16, u8)>| {
         let answer = format!("{of}: {answer}");
         let given = format!("{}, {state:?}", given(&buf, &index, from));
