@@ -1,15 +1,16 @@
-//! The two calls on runs of ima4 blocks, each by both sides.
+//! The two calls on runs of ima4 blocks, each by both sides. A state is one of two numbers, or of three if it
+//! counts clipped steps.
 
 use crate::blocks::{oracle, ours, State, BYTES, SAMPLES};
 
 /// A run by one side: what goes in, the state, what comes out, and the number that is returned.
-pub type Run<A, B> = fn(&[A], &mut State, &mut [B]) -> u8;
+pub type Run<A, B, S> = fn(&[A], &mut S, &mut [B]) -> u8;
 
 /// One of the two calls, by both sides. A block goes in as `from` numbers, and comes out as `to`.
-pub struct Call<A, B> {
+pub struct Call<A, B, S = State> {
     pub name: &'static str,
-    pub ours: Run<A, B>,
-    pub oracle: Run<A, B>,
+    pub ours: Run<A, B, S>,
+    pub oracle: Run<A, B, S>,
     pub from: usize,
     pub to: usize,
 }

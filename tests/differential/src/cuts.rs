@@ -1,7 +1,7 @@
 //! A run may be cut at any block: its parts, each from the state that the one before it handed back,
 //! give what the whole gives.
 
-use crate::blocks::{State, BYTES, MOST, SAMPLES};
+use crate::blocks::{BYTES, MOST, SAMPLES};
 use crate::calls::{Call, DECODE, ENCODE};
 use crate::nibble;
 use crate::outcome::Outcome;
@@ -29,12 +29,12 @@ pub fn report(progress: bool) -> Report {
 }
 
 /// Hands back what the oracle made of the whole.
-fn compare<A, B: Copy + PartialEq + Debug + From<u8>>(
+pub fn compare<A, B: Copy + PartialEq + Debug + From<u8>, S: Copy + PartialEq + Debug>(
     report: &Report,
     name: &str,
-    call: &Call<A, B>,
+    call: &Call<A, B, S>,
     input: &[A],
-    state: State,
+    state: S,
     edges: &[usize],
 ) -> Vec<B> {
     let len = input.len() / call.from * call.to;

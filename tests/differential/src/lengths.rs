@@ -12,29 +12,33 @@ use std::collections::BTreeSet;
 use std::fmt::Debug;
 
 /// What a call returns that refuses its buffers.
-pub const REFUSED: u8 = 3;
+const REFUSED: u8 = 3;
 /// No length is longer, of bytes or of samples.
 const LONGEST: usize = 2 * MOST * SAMPLES + 1;
 /// An index above the table stays as it was, too.
 const STATES: [State; 4] = [(0, 0), (-12345, 200), (i16::MIN, 255), (i16::MAX, 88)];
 
-/// Compared are the number, the buffer with the room about it, and both numbers of the state.
 pub fn report(progress: bool) -> Report {
     let report = Report::start(progress, "ima4 lengths");
-    each_pair(|bytes, samples| {
-        let taken = taken(bytes.len(), samples.len());
-        compare(&report, &DECODE, taken, bytes, samples.len());
-        compare(&report, &ENCODE, taken, samples, bytes.len());
-    });
+    compare_all(&report, &DECODE, &ENCODE, STATES);
     report
 }
 
-/// Calls `work` on all lengths of bytes with all lengths of samples, those that fit among them.
-pub fn each_pair(work: impl Fn(&[u8], &[i16]) + Sync) {
+/// All lengths of bytes with all lengths of samples, those that fit among them. Compared are the number,
+/// the buffer with the room about it, and all numbers of the state.
+pub fn compare_all<S: Copy + PartialEq + Debug + Sync>(
+    report: &Report,
+    decode: &Call<u8, i16, S>,
+    encode: &Call<i16, u8, S>,
+    states: [S; 4],
+) {
     let (bytes, samples) = (random(1, LONGEST), noise(1, LONGEST));
     each(lengths(BYTES).into_iter(), |bytes_len| {
         for samples_len in lengths(SAMPLES) {
-            work(&bytes[..bytes_len], &samples[..samples_len]);
+            let taken = taken(bytes_len, samples_len);
+            let (bytes, samples) = (&bytes[..bytes_len], &samples[..samples_len]);
+            compare(report, decode, taken, bytes, samples_len, states);
+            compare(report, encode, taken, samples, bytes_len, states);
         }
     });
 }
@@ -50,19 +54,24 @@ fn lengths(block: usize) -> BTreeSet<usize> {
 }
 
 /// The rule: 0 to 1,024 blocks, with 34 bytes and 64 samples for each.
-pub fn taken(bytes: usize, samples: usize) -> bool {
+fn taken(bytes: usize, samples: usize) -> bool {
     (0..=1024).any(|blocks| bytes == 34 * blocks && samples == 64 * blocks)
 }
 
-fn compare<A: Clone + PartialEq, B: Copy + PartialEq + Debug + From<u8>>(
+fn compare<
+    A: Clone + PartialEq,
+    B: Copy + PartialEq + Debug + From<u8>,
+    S: Copy + PartialEq + Debug,
+>(
     report: &Report,
-    call: &Call<A, B>,
+    call: &Call<A, B, S>,
     taken: bool,
     input: &[A],
     len: usize,
+    states: [S; 4],
 ) {
     let before = input.to_vec();
-    for state in STATES {
+    for state in states {
         let ours = Outcome::of(len, state, |state, out| (call.ours)(input, state, out));
         let expected = Outcome::of(len, state, |state, out| match taken {
             true => (call.oracle)(input, state, out),

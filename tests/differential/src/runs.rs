@@ -48,12 +48,12 @@ fn decode(report: &Report, name: impl Debug, bytes: &[u8]) {
 }
 
 /// Compares a run, and hands back what the oracle made of it.
-fn both<A, B: Copy + PartialEq + Debug + From<u8>>(
+pub fn both<A, B: Copy + PartialEq + Debug + From<u8>, S: Copy + PartialEq + Debug>(
     report: &Report,
     name: impl Debug,
-    call: &Call<A, B>,
+    call: &Call<A, B, S>,
     input: &[A],
-    state: State,
+    state: S,
 ) -> Vec<B> {
     let len = input.len() / call.from * call.to;
     let ours = Outcome::of(len, state, |state, out| (call.ours)(input, state, out));

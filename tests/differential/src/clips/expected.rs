@@ -5,14 +5,11 @@
 use super::ours::States;
 use super::plain::{self, State};
 use crate::blocks::{self, oracle, BYTES};
-use crate::lengths::{taken, REFUSED};
 use crate::ms::block::oracle as ms_oracle;
 use crate::seek::calls::plain as seek_plain;
 
+/// Of whole blocks, as the oracle is asked.
 pub fn decode_run(bytes: &[u8], state: &mut State, samples: &mut [i16]) -> u8 {
-    if !taken(bytes.len(), samples.len()) {
-        return REFUSED;
-    }
     let mut two = (state.0, state.1);
     oracle::decode(bytes, &mut two, samples);
     plain::decoded(bytes, state);
@@ -21,9 +18,6 @@ pub fn decode_run(bytes: &[u8], state: &mut State, samples: &mut [i16]) -> u8 {
 }
 
 pub fn encode_run(samples: &[i16], state: &mut State, bytes: &mut [u8]) -> u8 {
-    if !taken(bytes.len(), samples.len()) {
-        return REFUSED;
-    }
     let mut two = (state.0, state.1);
     oracle::encode(samples, &mut two, bytes);
     plain::encoded(bytes, state);

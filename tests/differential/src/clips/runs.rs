@@ -4,90 +4,96 @@
 use super::plain::State;
 use super::{expected, ours, COUNTS};
 use crate::blocks::{self, BYTES, MOST, SAMPLES};
-use crate::lengths;
-use crate::outcome::Outcome;
+use crate::calls::Call;
 use crate::parallel::each;
 use crate::report::Report;
-use crate::runs::{contents, random, spoilt, STATES};
-use std::fmt::Debug;
+use crate::runs::{both, contents, random, spoilt, STATES};
+use crate::{cuts, lengths};
 use std::iter;
 
-type Decode = fn(&[u8], &mut State, &mut [i16]) -> u8;
-type Encode = fn(&[i16], &mut State, &mut [u8]) -> u8;
+const DECODE: Call<u8, i16, State> = Call {
+    name: "decode",
+    ours: ours::decode_run,
+    oracle: expected::decode_run,
+    from: BYTES,
+    to: SAMPLES,
+};
+
+const ENCODE: Call<i16, u8, State> = Call {
+    name: "encode",
+    ours: ours::encode_run,
+    oracle: expected::encode_run,
+    from: SAMPLES,
+    to: BYTES,
+};
 
 /// Compared are the number, all that comes out, and all three numbers of the state.
-pub fn reports(progress: bool) -> [Report; 4] {
+pub fn reports(progress: bool) -> [Report; 5] {
     let encoded = Report::start(progress, "encode_ima4 clips");
     let decoded = Report::start(progress, "decode_ima4 clips");
     let returned = Report::start(progress, "ima4 clips both ways");
     let parts = [MOST, 0, 1, 2, 7].into_iter();
     let parts = parts.flat_map(|blocks| [1, 2].map(|seed| (blocks, seed)));
     each(parts, |(blocks, seed)| {
-        let decode = |name, bytes: &[u8], state| {
-            decode(&decoded, (name, seed), bytes, blocks * SAMPLES, state);
-        };
         for (name, samples) in contents(seed, blocks * SAMPLES) {
-            for (turn, state) in STATES.into_iter().flat_map(counting).enumerate() {
-                let bytes = encode(&encoded, (name, seed), &samples, blocks * BYTES, state);
-                both_ways(&returned, (name, seed, blocks, state), &samples);
-                // from the same state, which is kept at every header, and from another one
+            let name = (name, seed, blocks);
+            for (turn, state) in states().enumerate() {
+                let bytes = both(&encoded, name, &ENCODE, &samples, state);
+                if state.1 <= 88 {
+                    both_ways(&returned, name, &samples, state);
+                }
+                // from the same state, which is kept if its index is at most 88, and from another one
                 let other = counting(STATES[turn % 8])[turn / 8];
                 for state in [state, other] {
-                    decode((name, "encoded"), &bytes, state);
-                    decode((name, "spoilt"), &spoilt(&bytes, seed), state);
+                    both(&decoded, ("encoded", name), &DECODE, &bytes, state);
+                    let bytes = spoilt(&bytes, seed);
+                    both(&decoded, ("spoilt", name), &DECODE, &bytes, state);
                 }
             }
         }
-        for state in STATES.into_iter().flat_map(counting) {
-            decode(("", "random"), &random(seed, blocks * BYTES), state);
+        let bytes = random(seed, blocks * BYTES);
+        for state in states() {
+            both(&decoded, ("random", seed, blocks), &DECODE, &bytes, state);
         }
     });
-    [encoded, decoded, returned, unfitting(progress)]
+    let cut = cut(progress);
+    let unfitting = Report::start(progress, "ima4 clips lengths");
+    lengths::compare_all(&unfitting, &DECODE, &ENCODE, counting((-12345, 200)));
+    [encoded, decoded, returned, cut, unfitting]
+}
+
+/// All states with all counts.
+fn states() -> impl Iterator<Item = State> {
+    STATES.into_iter().flat_map(counting)
 }
 
 fn counting((predictor, index): blocks::State) -> [State; 4] {
     COUNTS.map(|clipped| (predictor, index, clipped))
 }
 
-/// All lengths, those that are refused and those that fit.
-fn unfitting(progress: bool) -> Report {
-    let report = Report::start(progress, "ima4 clips lengths");
-    lengths::each_pair(|bytes, samples| {
-        for state in counting((-12345, 200)) {
-            decode(&report, "random", bytes, samples.len(), state);
-            encode(&report, "noise", samples, bytes.len(), state);
-        }
-    });
-    report
-}
-
-/// The call is lent a buffer for so many samples.
-fn decode(report: &Report, name: impl Debug, bytes: &[u8], len: usize, state: State) {
-    let by = |decode: Decode| Outcome::of(len, state, |state, out| decode(bytes, state, out));
-    let input = ("decode", name, bytes.len(), len, state);
-    by(ours::decode_run).compare(report, input, &by(expected::decode_run));
-}
-
-/// The call is lent a buffer for so many bytes. What the oracle wrote there is handed back.
-fn encode(report: &Report, name: impl Debug, samples: &[i16], len: usize, state: State) -> Vec<u8> {
-    let by = |encode: Encode| Outcome::of(len, state, |state, out| encode(samples, state, out));
-    let input = ("encode", name, samples.len(), len, state);
-    let expected = by(expected::encode_run);
-    by(ours::encode_run).compare(report, input, &expected);
-    expected.buffer().to_vec()
-}
-
-/// What ours encodes, ours decodes from the same state: both end in the same one, with the same count. The
-/// decoder takes an index above 88 from the header, and the encoder lowers it, so it is lowered first.
+/// What ours encodes, ours decodes from the same state: both end in the same one, with the same count.
 fn both_ways(
     report: &Report,
-    input @ (.., blocks, (predictor, index, clipped)): (&str, u64, usize, State),
+    name @ (.., blocks): (&str, u64, usize),
     samples: &[i16],
+    start: State,
 ) {
-    let start = (predictor, index.min(88), clipped);
     let (mut encoder, mut bytes) = (start, vec![0; blocks * BYTES]);
     ours::encode_run(samples, &mut encoder, &mut bytes);
     let (mut decoder, mut decoded) = (start, vec![0; blocks * SAMPLES]);
     ours::decode_run(&bytes, &mut decoder, &mut decoded);
-    report.compare(iter::once(input), |_| decoder, |_| encoder);
+    report.compare(iter::once((name, start)), |_| decoder, |_| encoder);
+}
+
+/// A run in two parts counts what the whole run counts.
+fn cut(progress: bool) -> Report {
+    let report = Report::start(progress, "ima4 clips cuts");
+    let edges = [0, 1, 2, 3, 4, 5, 6, 7];
+    for (name, samples) in contents(9, 7 * SAMPLES) {
+        for state in states() {
+            let bytes = cuts::compare(&report, name, &ENCODE, &samples, state, &edges);
+            cuts::compare(&report, name, &DECODE, &bytes, state, &edges);
+        }
+    }
+    report
 }
