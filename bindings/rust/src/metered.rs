@@ -13,13 +13,13 @@
 //! assert_eq!(state.clipped, 1);
 //! ```
 //!
-//! The calls have the names of those at the root and take the same parameters, but a [`State`] in the place of an
-//! [`AdpcmImaState`]. Beside the count they do the same: bytes, samples, refusals and the other two numbers of
-//! a state do not depend on it. An encoder's step is the decoder's step with the nibble that was written, so it
-//! counts the same.
+//! The calls have the names of those at the root and take the same parameters, with a [`State`] in the place of
+//! an [`AdpcmImaState`]. Apart from the count they do the same: bytes, samples, refusals and the other two numbers
+//! of a state do not depend on it. An encoder's step is the decoder's step with the nibble that was written, so
+//! it counts the same.
 //!
-//! The count travels with the state. So the count of a run that is cut is that of the whole run, if the second
-//! part starts from the state that the first part leaves. A refused call leaves it as it was.
+//! The count travels with the state: if the second part of a run starts from the state that the first part
+//! leaves, it ends with the count of the whole run. A refused call leaves the count as it was.
 
 pub mod lenient;
 
@@ -341,7 +341,7 @@ pub fn decode_adpcm_ima_ms_channels(
 /// ```
 /// use sprettuhol::metered::{decode_adpcm_ima_ms_channels, encode_adpcm_ima_ms, State};
 ///
-/// // both channels at the upper end of the scale: there even nibble 0 clips, but for the steps below 8
+/// // both channels at the upper end of the scale: there even nibble 0 clips, unless the step is below 8
 /// let mut states = [State { step_index: 88, clipped: 5, ..State::new() }, State::new()];
 /// let mut block = [0; 16];
 /// encode_adpcm_ima_ms(&[32767; 18], &mut states, &mut block)?;
