@@ -20,7 +20,7 @@ use std::fmt::Debug;
 type Decode = fn(u8, &[u8], &mut [u32; 8], &mut [i16]) -> u8;
 type Encode = fn(u8, &[i16], &mut States, &mut [u8]) -> u8;
 
-/// From here on a block is long. Not all of these are gone over, for they take longest.
+/// From here on a block is long. Of these only the longest are gone over, for they take longest.
 const LONG: usize = 60_000;
 /// What the counts are before a call that only writes them, for a refused one to leave.
 const LENT: [u32; 8] = [0x5a5a_5a5a; 8];
@@ -62,11 +62,11 @@ fn counting(states: block::States, turn: usize) -> States {
     })
 }
 
-/// All lengths and channel numbers, those that are refused and those that fit.
+/// All lengths but the long ones, and all channel numbers, those that are refused and those that fit.
 fn unfitting(progress: bool) -> Report {
     let report = Report::start(progress, "ms clips lengths");
     each_length(|block| {
-        if !chosen(block.len()) {
+        if block.len() >= LONG {
             return;
         }
         for channels in CHANNELS {
@@ -78,7 +78,7 @@ fn unfitting(progress: bool) -> Report {
     let noise = noise(1, 4 * LONGEST);
     let states = counting(eight([(-12345, 200), (i16::MAX, 255)]), 2);
     let blocks = lengths::blocks().into_iter();
-    each(blocks.filter(|&block| chosen(block)), |block| {
+    each(blocks.filter(|&block| block < LONG), |block| {
         for channels in CHANNELS {
             for len in lengths::samples(channels, block) {
                 encode(&report, "noise", channels, &noise[..len], states, block);
@@ -86,11 +86,6 @@ fn unfitting(progress: bool) -> Report {
         }
     });
     report
-}
-
-/// Of the long ones the last that is taken, and the first that is not.
-fn chosen(block: usize) -> bool {
-    block < LONG || [65_535, 65_536].contains(&block)
 }
 
 /// By both readings. Strict reading is to refuse what it has to, and to tell no count then.
