@@ -53,7 +53,7 @@
 #define SPR_IMA4_BLOCK_SAMPLES 64
 #define SPR_IMA4_MOST_BLOCKS 1024    /* of a run */
 #define SPR_MS_MOST_BYTES 65535      /* of a block */
-#define SPR_MS_MOST_CHANNELS 8       /* of a block; and so many states the encoder takes, and counts the decoder tells */
+#define SPR_MS_MOST_CHANNELS 8       /* of a block; and so many states, or counts, a call takes */
 #define SPR_LOSS_MOST_SAMPLES 131063 /* of a run; as many as the longest MS block has */
 
 /* How many samples an MS block has, those of all channels together. A block of one channel has a length n of 4
@@ -159,8 +159,8 @@ uint8_t spr_encode_ima4(const int16_t *samples, size_t samples_len, int16_t *pre
  * them, keep a name of the run's bytes beside the index, such as a hash, and compare it first.
  *
  * Reads `bytes` and the state. Writes all of `record`, and the state behind the last block, which is where the
- * next run's index starts; the count goes on over all blocks, as in decoding. Where there are no blocks the record is 0, 2, 1, `every`, and the state stays as it
- * was given.
+ * next run's index starts; the count goes on over all blocks, as in decoding. Where there are no blocks the record
+ * is 0, 2, 1, `every`, and the state stays as it was given.
  *
  * SPR_REFUSED_BLOCKS: `bytes_len` is not 34 for each block, or there are over 1,024 blocks. SPR_REFUSED_INDEX:
  * `every` is not 1 to 64, or `record_len` is not what SPR_IMA4_INDEX_BYTES says. Then neither `record` nor the
