@@ -9,6 +9,7 @@ use lib.Ieee.Bits.{is-true}
 use lib.IntN.{ℤ, pos, negsuc, _+ℤ_, _-ℤ_}
 use lib.Signed.{leZ, _≤ℤ_}
 use borrow.Author.Tests.{lt-ltb, le-ltb, eq-eqb, ne-eqb}
+use borrow.Table.Steps.{cases}
 use Rattle.halves.specs.Halves.{fromBits, bitsOf}
 use Rattle.num.proofs.Shift.{shift-le}
 use Rattle.num.proofs.Within.{clamp-under, clamp-over}
@@ -57,3 +58,8 @@ kept st h =
 pub reloads : (own : State) (high low : ℕ) → 88 < own .index → startState own high low ≡ headerState own (256 * high + low)
 unfolding startState
 reloads own high low h = rw (ne-eqb (own .index) (min ((256 * high + low) % 128) 88) (λ e. omega arith)) refl
+
+-- The count is the decoder's own at every header.
+pub count-stays : (own : State) (high low : ℕ) → startState own high low .clipped ≡ own .clipped
+unfolding startState
+count-stays own high low = cases (keeps own (headerState own (256 * high + low))) (λ e. rw e refl) (λ e. rw e refl)
