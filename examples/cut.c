@@ -12,6 +12,7 @@
 struct state {
     int16_t predictor;
     uint8_t step_index;
+    uint32_t clipped;
 };
 
 /* A made-up vowel: every 60 samples a pulse, which rings on and dies away. */
@@ -36,18 +37,19 @@ static void expect_done(uint8_t refusal)
 static struct state decode(const uint8_t *bytes, size_t blocks, struct state from, int16_t *samples)
 {
     expect_done(spr_decode_ima4(bytes, blocks * SPR_IMA4_BLOCK_BYTES, &from.predictor, &from.step_index,
-                                samples, blocks * SPR_IMA4_BLOCK_SAMPLES));
+                                &from.clipped, samples, blocks * SPR_IMA4_BLOCK_SAMPLES));
     return from;
 }
 
 int main(void)
 {
-    const struct state zero = {0, 0};
+    const struct state zero = {0, 0, 0};
     struct state end = zero;
     int16_t spoken[SAMPLES], whole[SAMPLES], parts[SAMPLES];
     uint8_t bytes[BLOCKS * SPR_IMA4_BLOCK_BYTES];
     speak(spoken);
-    expect_done(spr_encode_ima4(spoken, SAMPLES, &end.predictor, &end.step_index, bytes, sizeof bytes));
+    expect_done(spr_encode_ima4(spoken, SAMPLES, &end.predictor, &end.step_index, &end.clipped, bytes,
+                                sizeof bytes));
     decode(bytes, BLOCKS, zero, whole);
 
     for (int carry = 1; carry >= 0; carry--) {

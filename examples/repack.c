@@ -11,11 +11,11 @@ static uint8_t repacked[SPR_MS_MOST_BYTES];
 static uint8_t report(uint8_t channels, const uint8_t *block, size_t len)
 {
     const size_t samples = SPR_MS_SAMPLES(channels, len);
-    uint32_t count, first;
+    uint32_t count, first, clipped[SPR_MS_MOST_CHANNELS];
     uint16_t peak;
-    uint8_t refusal = spr_decode_ms(channels, block, len, before, samples);
+    uint8_t refusal = spr_decode_ms(channels, block, len, before, samples, &clipped);
     if (refusal == SPR_DONE)
-        refusal = spr_decode_ms(channels, repacked, len, after, samples);
+        refusal = spr_decode_ms(channels, repacked, len, after, samples, &clipped);
     if (refusal == SPR_DONE)
         refusal = spr_loss(before, samples, after, samples, &count, &first, &peak);
     if (refusal != SPR_DONE)
