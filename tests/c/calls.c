@@ -35,44 +35,67 @@ static void nibbles(void)
 {
     static const struct {
         int line, encode, predictor, index, in, out, next, next_index;
+        uint32_t count, next_count;
     } rows[] = {
-        {__LINE__, 0, 0, 0, 7, 11, 11, 8},
-        {__LINE__, 0, 0, 0, 15, -11, -11, 8},
-        {__LINE__, 0, 0, 0, 8, 0, 0, 0},
-        {__LINE__, 0, 0, 255, 0, 4095, 4095, 87},
-        {__LINE__, 0, 0, 88, 7, 32767, 32767, 88},
-        {__LINE__, 1, 0, 0, 0, 0, 0, 0},
-        {__LINE__, 1, 0, 0, -1, 9, -1, 0},
-        {__LINE__, 1, 0, 0, 32767, 7, 11, 8},
-        {__LINE__, 1, 32758, 0, 32767, 5, 32766, 4},
+        {__LINE__, 0, 0, 0, 7, 11, 11, 8, 5, 5},
+        {__LINE__, 0, 0, 0, 15, -11, -11, 8, 0, 0},
+        {__LINE__, 0, 0, 0, 8, 0, 0, 0, 5, 5},
+        {__LINE__, 0, 0, 255, 0, 4095, 4095, 87, 5, 5},
+        {__LINE__, 0, 0, 88, 7, 32767, 32767, 88, 0, 1},
+        {__LINE__, 0, 0, 88, 15, -32768, -32768, 88, 5, 6},
+        {__LINE__, 0, 32756, 0, 7, 32767, 32767, 8, 5, 5},
+        {__LINE__, 0, 32757, 0, 7, 32767, 32767, 8, 5, 6},
+        {__LINE__, 0, -32757, 0, 15, -32768, -32768, 8, 5, 5},
+        {__LINE__, 0, -32758, 0, 15, -32768, -32768, 8, 5, 6},
+        {__LINE__, 0, 32757, 0, 7, 32767, 32767, 8, 4294967293, 4294967294},
+        {__LINE__, 0, 32757, 0, 7, 32767, 32767, 8, 4294967294, 4294967295},
+        {__LINE__, 0, 32757, 0, 7, 32767, 32767, 8, 4294967295, 4294967295},
+        {__LINE__, 0, 32756, 0, 7, 32767, 32767, 8, 4294967294, 4294967294},
+        {__LINE__, 0, 32756, 0, 7, 32767, 32767, 8, 4294967295, 4294967295},
+        {__LINE__, 1, 0, 0, 0, 0, 0, 0, 5, 5},
+        {__LINE__, 1, 0, 0, -1, 9, -1, 0, 0, 0},
+        {__LINE__, 1, 0, 0, 32767, 7, 11, 8, 5, 5},
+        {__LINE__, 1, 32758, 0, 32767, 5, 32766, 4, 5, 5},
+        {__LINE__, 1, 32766, 0, 32767, 1, 32767, 0, 5, 5},
+        {__LINE__, 1, -32767, 0, -32768, 9, -32768, 0, 5, 5},
+        {__LINE__, 1, 0, 88, 32767, 4, 32767, 88, 0, 1},
+        {__LINE__, 1, 0, 88, -32768, 12, -32768, 88, 5, 6},
+        {__LINE__, 1, 32767, 88, 32767, 0, 32767, 87, 4294967294, 4294967295},
+        {__LINE__, 1, 32767, 88, 32767, 0, 32767, 87, 4294967295, 4294967295},
     };
     FOR_EACH(rows) {
         int16_t *p = predictors + 1;
         uint8_t *i = indices + 1;
+        uint32_t *c = counts + 1;
         fill();
-        *p = (int16_t)rows[k].predictor, *i = (uint8_t)rows[k].index;
-        CHECK(rows[k].out == (rows[k].encode ? spr_encode_adpcm_ima((int16_t)rows[k].in, p, i)
-                                             : spr_decode_adpcm_ima((uint8_t)rows[k].in, p, i)));
-        CHECK(*p == rows[k].next && *i == rows[k].next_index && stay_but(1));
+        *p = (int16_t)rows[k].predictor, *i = (uint8_t)rows[k].index, *c = rows[k].count;
+        CHECK(rows[k].out == (rows[k].encode ? spr_encode_adpcm_ima((int16_t)rows[k].in, p, i, c)
+                                             : spr_decode_adpcm_ima((uint8_t)rows[k].in, p, i, c)));
+        CHECK(*p == rows[k].next && *i == rows[k].next_index && *c == rows[k].next_count && stay_but(1));
     }
 }
 
-/* All bytes at all indices: of these only the low four bits count, and of those only what is up to 88. */
+static int same_but_count(struct state s, struct state t)
+{
+    return s.p == t.p && s.i == t.i;
+}
+
+/* All bytes at all indices: of these only the low four bits count, and of those only what is up to 88. The counts
+ * are 0 and the last two, and none of them changes anything else. */
 static void all_nibbles(void)
 {
     for (row = 0; row < 256 * 256; row++) {
         const int16_t from = given_samples[row], x = given_samples[row + 1];
         const uint8_t byte = (uint8_t)(row % 256), raw = (uint8_t)(row / 256), low = raw < 88 ? raw : 88;
-        int16_t p = from, q = from;
-        uint8_t i = raw, j = low;
-        const int16_t out = spr_decode_adpcm_ima(byte, &p, &i);
-        CHECK(out == p && i <= 88);
-        CHECK(out == spr_decode_adpcm_ima(byte & 15, &q, &j) && p == q && i == j);
-        p = q = from, i = raw, j = low;
-        const uint8_t nibble = spr_encode_adpcm_ima(x, &p, &i);
-        CHECK(nibble <= 15 && nibble == spr_encode_adpcm_ima(x, &q, &j) && p == q && i == j);
-        q = from, j = low;
-        CHECK(spr_decode_adpcm_ima(nibble, &q, &j) == p && p == q && i == j);
+        const struct state given = {from, raw, 0u - (uint32_t)row % 3}, lowered = {from, low, 5};
+        struct state s = given, t = lowered, u = given;
+        const int16_t out = decode_one(byte, &s);
+        CHECK(out == s.p && s.i <= 88);
+        CHECK(out == decode_one(byte & 15, &t) && same_but_count(s, t));
+        s = given, t = lowered;
+        const uint8_t nibble = encode_one(x, &s);
+        CHECK(nibble <= 15 && nibble == encode_one(x, &t) && same_but_count(s, t));
+        CHECK(decode_one(nibble, &u) == s.p && same(s, u));
     }
 }
 
@@ -99,16 +122,18 @@ static void ima4_lengths(void)
         const int taken = rows[k].number == SPR_DONE, moves = taken && rows[k].n > 0;
         int16_t *p = predictors + 1;
         uint8_t *i = indices + 1;
+        uint32_t *c = counts + 1;
         fill();
-        CHECK(spr_decode_ima4(given_bytes, rows[k].n, p, i, samples, rows[k].m) == rows[k].number);
+        CHECK(spr_decode_ima4(given_bytes, rows[k].n, p, i, c, samples, rows[k].m) == rows[k].number);
         CHECK(kept(0, taken ? rows[k].m : 0) && stay_but(1) && stay_but(0) == !moves);
         fill();
-        CHECK(spr_encode_ima4(given_samples, rows[k].m, p, i, bytes, rows[k].n) == rows[k].number);
+        CHECK(spr_encode_ima4(given_samples, rows[k].m, p, i, c, bytes, rows[k].n) == rows[k].number);
         CHECK(kept(taken ? rows[k].n : 0, 0) && stay_but(1) && stay_but(0) == !moves);
     }
 }
 
-/* The first sample of a block whose bytes, but for the second of the header, are 0. */
+/* The first sample of a block whose bytes, but for the second of the header, are 0. The count is kept, whether the
+ * rest of the state is or not. */
 static void ima4_headers(void)
 {
     static const struct {
@@ -120,38 +145,78 @@ static void ima4_headers(void)
     };
     FOR_EACH(rows) {
         const uint8_t block[34] = {0, (uint8_t)rows[k].header};
-        int16_t p = (int16_t)rows[k].predictor, q = p;
-        uint8_t i = (uint8_t)rows[k].index, j = i;
-        CHECK(spr_decode_ima4(block, 34, &p, &i, samples, 64) == SPR_DONE && samples[0] == rows[k].first);
-        ima4_decoded(block, 1, &q, &j);
-        CHECK(p == q && i == j && (rows[k].header > 0 || samples[63] == rows[k].first));
+        struct state s = {(int16_t)rows[k].predictor, (uint8_t)rows[k].index, 9}, t = s;
+        CHECK(spr_decode_ima4(block, 34, &s.p, &s.i, &s.c, samples, 64) == SPR_DONE);
+        CHECK(samples[0] == rows[k].first);
+        ima4_decoded(block, 1, &t);
+        CHECK(same(s, t) && (rows[k].header > 0 || (samples[63] == rows[k].first && s.c == 9)));
         by_record(block, rows[k].predictor, rows[k].index, rows[k].first);
     }
 }
 
-/* 9 blocks that were encoded, and 9 of noise, whole and cut. */
+/* A block up and one down, from the ends of the range, so that the second one's header is taken: every step is
+ * clipped. So is every step of an encoder that is held at the end. */
+static void ima4_counts(void)
+{
+    static const struct {
+        int line;
+        uint32_t count, one, two;
+    } rows[] = {
+        {__LINE__, 0, 64, 128},
+        {__LINE__, 5, 69, 133},
+        {__LINE__, 4294967167, 4294967231, 4294967295},
+        {__LINE__, 4294967168, 4294967232, 4294967295},
+        {__LINE__, 4294967232, 4294967295, 4294967295},
+        {__LINE__, 4294967295, 4294967295, 4294967295},
+    };
+    uint8_t run[68] = {0x7f, 0x80 | 88}, block[34];
+    int16_t held[64];
+    memset(run + 2, 0x77, 32), memset(run + 36, 0xff, 32), run[34] = 0x80, run[35] = 88;
+    for (size_t k = 0; k < 64; k++)
+        held[k] = 32767;
+    FOR_EACH(rows) {
+        struct state s = {0, 0, rows[k].count}, t = s, u = {0, 88, rows[k].count};
+        CHECK(spr_decode_ima4(run, 34, &s.p, &s.i, &s.c, samples, 64) == SPR_DONE && s.c == rows[k].one);
+        CHECK(spr_decode_ima4(run, 68, &t.p, &t.i, &t.c, samples, 128) == SPR_DONE && t.c == rows[k].two);
+        CHECK(spr_encode_ima4(held, 64, &u.p, &u.i, &u.c, block, 34) == SPR_DONE && u.c == rows[k].one);
+        index_clips(run, rows[k].count, rows[k].two);
+    }
+}
+
+/* 9 blocks that were encoded, whole and cut. */
+static void ima4_encodes(struct state start)
+{
+    struct state s = start, t = start;
+    CHECK(spr_encode_ima4(given_samples, 64 * 9, &s.p, &s.i, &s.c, bytes, 34 * 9) == SPR_DONE);
+    ima4_encoded(9, &t);
+    CHECK(same(s, t));
+    s = start;
+    CHECK(spr_encode_ima4(given_samples, 64 * 4, &s.p, &s.i, &s.c, bytes + 34 * 9, 34 * 4) == SPR_DONE);
+    CHECK(spr_encode_ima4(given_samples + 64 * 4, 64 * 5, &s.p, &s.i, &s.c, bytes + 34 * 13, 34 * 5) == SPR_DONE);
+    CHECK(memcmp(bytes, bytes + 34 * 9, 34 * 9) == 0 && same(s, t));
+}
+
+/* These, and 9 of noise, whole and cut. */
+static void ima4_decodes(struct state start)
+{
+    struct state s = start, t = start;
+    memcpy(bytes + 34 * 9, given_bytes, 34 * 9);
+    CHECK(spr_decode_ima4(bytes, 34 * 18, &s.p, &s.i, &s.c, samples, 64 * 18) == SPR_DONE);
+    ima4_decoded(bytes, 18, &t);
+    CHECK(same(s, t));
+    s = start;
+    CHECK(spr_decode_ima4(bytes, 34 * 5, &s.p, &s.i, &s.c, samples + 64 * 18, 64 * 5) == SPR_DONE);
+    CHECK(spr_decode_ima4(bytes + 34 * 5, 34 * 13, &s.p, &s.i, &s.c, samples + 64 * 23, 64 * 13) == SPR_DONE);
+    CHECK(memcmp(samples, samples + 64 * 18, 64 * 18 * sizeof *samples) == 0 && same(s, t));
+}
+
+/* Every second count is so high that it stops within the run. */
 static void ima4_runs(void)
 {
     for (row = 0; row < 256; row++) {
-        const uint8_t from = (uint8_t)row;
-        int16_t p = 77, q = 77;
-        uint8_t i = from, j = from;
-        CHECK(spr_encode_ima4(given_samples, 64 * 9, &p, &i, bytes, 34 * 9) == SPR_DONE);
-        ima4_encoded(9, &q, &j);
-        CHECK(p == q && i == j);
-        p = 77, i = from;
-        CHECK(spr_encode_ima4(given_samples, 64 * 4, &p, &i, bytes + 34 * 9, 34 * 4) == SPR_DONE);
-        CHECK(spr_encode_ima4(given_samples + 64 * 4, 64 * 5, &p, &i, bytes + 34 * 13, 34 * 5) == SPR_DONE);
-        CHECK(memcmp(bytes, bytes + 34 * 9, 34 * 9) == 0 && p == q && i == j);
-        memcpy(bytes + 34 * 9, given_bytes, 34 * 9);
-        p = q = 77, i = j = from;
-        CHECK(spr_decode_ima4(bytes, 34 * 18, &p, &i, samples, 64 * 18) == SPR_DONE);
-        ima4_decoded(bytes, 18, &q, &j);
-        CHECK(p == q && i == j);
-        p = 77, i = from;
-        CHECK(spr_decode_ima4(bytes, 34 * 5, &p, &i, samples + 64 * 18, 64 * 5) == SPR_DONE);
-        CHECK(spr_decode_ima4(bytes + 34 * 5, 34 * 13, &p, &i, samples + 64 * 23, 64 * 13) == SPR_DONE);
-        CHECK(memcmp(samples, samples + 64 * 18, 64 * 18 * sizeof *samples) == 0 && p == q && i == j);
+        const struct state start = {77, (uint8_t)row, row % 2 ? UINT32_MAX - (uint32_t)row / 8 : (uint32_t)row};
+        ima4_encodes(start);
+        ima4_decodes(start);
     }
 }
 
@@ -164,14 +229,14 @@ static int strictly(uint8_t channels, const uint8_t *block, int number)
     return number;
 }
 
-typedef uint8_t decoder(uint8_t, const uint8_t *, size_t, int16_t *, size_t);
+typedef uint8_t decoder(uint8_t, const uint8_t *, size_t, int16_t *, size_t, uint32_t (*)[SPR_MS_MOST_CHANNELS]);
 
 static void ms_decode(decoder *decode, uint8_t channels, size_t n, size_t m, int number)
 {
     const int taken = number == SPR_DONE;
     fill();
-    CHECK(decode(channels, given_bytes, n, samples, m) == number);
-    CHECK(kept(0, taken ? m : 0));
+    CHECK(decode(channels, given_bytes, n, samples, m, all_counts) == number);
+    CHECK(kept(0, taken ? m : 0) && stay_but(taken ? SPR_MS_MOST_CHANNELS : 0));
     if (taken)
         ms_decoded(channels, m);
 }
@@ -183,7 +248,7 @@ static void ms_call(uint8_t channels, size_t n, size_t m, int number)
     ms_decode(spr_decode_ms_lenient, channels, n, m, number);
     ms_decode(spr_decode_ms, channels, n, m, strictly(channels, given_bytes, number));
     fill();
-    CHECK(spr_encode_ms(channels, given_samples, m, all_predictors, all_indices, bytes, n) == number);
+    CHECK(spr_encode_ms(channels, given_samples, m, all_predictors, all_indices, all_counts, bytes, n) == number);
     CHECK(kept(taken ? n : 0, 0) && stay_but(taken ? channels : 0));
     if (taken)
         ms_encoded(channels, m);
@@ -239,8 +304,8 @@ static void ms_repack(repacker *repack, uint8_t channels, const uint8_t *block, 
     for (size_t c = 0; c < channels; c++)
         indices[1 + c] = block[4 * c + 2] < 88 ? block[4 * c + 2] : 88;
     const size_t m = SPR_MS_SAMPLES(channels, n);
-    CHECK(spr_decode_ms_lenient(channels, block, n, samples, m) == SPR_DONE);
-    CHECK(spr_encode_ms(channels, samples, m, all_predictors, all_indices, again, n) == SPR_DONE);
+    CHECK(spr_decode_ms_lenient(channels, block, n, samples, m, all_counts) == SPR_DONE);
+    CHECK(spr_encode_ms(channels, samples, m, all_predictors, all_indices, all_counts, again, n) == SPR_DONE);
     CHECK(memcmp(bytes, again, n) == 0);
     CHECK(repack(channels, bytes, n, twice, n, changed + 1) == SPR_DONE);
     CHECK(changed[1] == 0 && memcmp(bytes, twice, n) == 0);
@@ -384,6 +449,7 @@ int main(void)
     all_nibbles();
     ima4_lengths();
     ima4_headers();
+    ima4_counts();
     ima4_runs();
     index_lengths();
     index_counts();

@@ -23,14 +23,24 @@ static int16_t given_samples[MOST_SAMPLES], sample_cells[MOST_SAMPLES + 2 * GUAR
 static uint8_t *const bytes = byte_cells + GUARD;
 static int16_t *const samples = sample_cells + GUARD;
 
-/* Eight states, at 1 to 8, with a guard on both sides. The indices are above 88. */
+/* Eight states, at 1 to 8, with a guard on both sides. The indices are above 88. Two counts are about to stop. */
 #define CELLS (SPR_MS_MOST_CHANNELS + 2)
 static const int16_t old_predictors[CELLS] = {FILL, 77, -77, 78, -78, 79, -79, 80, -80, FILL};
 static const uint8_t old_indices[CELLS] = {FILL, 200, 201, 202, 203, 204, 205, 206, 207, FILL};
+static const uint32_t old_counts[CELLS] = {FILL, 1000, UINT32_MAX - 1, 1001, 1002, UINT32_MAX, 1003, 1004, 1005, FILL};
 static int16_t predictors[CELLS];
 static uint8_t indices[CELLS];
+static uint32_t counts[CELLS];
 static int16_t (*const all_predictors)[SPR_MS_MOST_CHANNELS] = (int16_t (*)[SPR_MS_MOST_CHANNELS])(predictors + 1);
 static uint8_t (*const all_indices)[SPR_MS_MOST_CHANNELS] = (uint8_t (*)[SPR_MS_MOST_CHANNELS])(indices + 1);
+static uint32_t (*const all_counts)[SPR_MS_MOST_CHANNELS] = (uint32_t (*)[SPR_MS_MOST_CHANNELS])(counts + 1);
+
+/* A state by itself: the predictor, the step index, and the count of clipped steps. */
+struct state {
+    int16_t p;
+    uint8_t i;
+    uint32_t c;
+};
 
 static void check(const char *file, int line, int holds)
 {
@@ -56,6 +66,7 @@ static void fill(void)
     memset(sample_cells, FILL, sizeof sample_cells);
     memcpy(predictors, old_predictors, sizeof predictors);
     memcpy(indices, old_indices, sizeof indices);
+    memcpy(counts, old_counts, sizeof counts);
 }
 
 static int filled(const void *from, size_t n)
@@ -76,7 +87,24 @@ static int kept(size_t n, size_t m)
 static int stay_but(size_t few)
 {
     const size_t k = 1 + few;
-    return predictors[0] == old_predictors[0] && indices[0] == old_indices[0] &&
+    return predictors[0] == old_predictors[0] && indices[0] == old_indices[0] && counts[0] == old_counts[0] &&
            memcmp(predictors + k, old_predictors + k, (CELLS - k) * sizeof *predictors) == 0 &&
-           memcmp(indices + k, old_indices + k, CELLS - k) == 0;
+           memcmp(indices + k, old_indices + k, CELLS - k) == 0 &&
+           memcmp(counts + k, old_counts + k, (CELLS - k) * sizeof *counts) == 0;
+}
+
+static int same(struct state s, struct state t)
+{
+    return s.p == t.p && s.i == t.i && s.c == t.c;
+}
+
+/* One of the eight states, counted from 1, as it was filled and as it is. */
+static struct state old_state(size_t k)
+{
+    return (struct state){old_predictors[k], old_indices[k], old_counts[k]};
+}
+
+static struct state new_state(size_t k)
+{
+    return (struct state){predictors[k], indices[k], counts[k]};
 }

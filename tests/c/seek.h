@@ -4,15 +4,14 @@
 static void index_call(size_t n, uint8_t every, size_t m, int number)
 {
     const int taken = number == SPR_DONE;
-    int16_t p = old_predictors[1];
-    uint8_t i = old_indices[1];
+    struct state s = old_state(1);
     fill();
-    CHECK(spr_ima4_index(given_bytes, n, every, predictors + 1, indices + 1, bytes, m) == number);
+    CHECK(spr_ima4_index(given_bytes, n, every, predictors + 1, indices + 1, counts + 1, bytes, m) == number);
     CHECK(kept(taken ? m : 0, 0) && stay_but(taken ? 1 : 0));
     if (!taken)
         return;
-    ima4_indexed(given_bytes, 0, n / 34, every, &p, &i);
-    CHECK(predictors[1] == p && indices[1] == i);
+    ima4_indexed(given_bytes, 0, n / 34, every, &s);
+    CHECK(same(new_state(1), s));
 }
 
 static void index_lengths(void)
@@ -76,41 +75,41 @@ static void index_records(void)
     static const uint8_t run[34 * 3] = {0};
     FOR_EACH(rows) {
         const size_t n = 34 * rows[k].blocks, m = 64 * rows[k].blocks;
-        int16_t p = (int16_t)rows[k].predictor, q = p;
-        uint8_t i = (uint8_t)rows[k].index, j = i;
+        const uint8_t every = (uint8_t)rows[k].every;
+        struct state s = {(int16_t)rows[k].predictor, (uint8_t)rows[k].index, 9}, t = s;
         fill();
-        CHECK(spr_ima4_index(run, n, (uint8_t)rows[k].every, &p, &i, bytes, rows[k].m) == SPR_DONE);
+        CHECK(spr_ima4_index(run, n, every, &s.p, &s.i, &s.c, bytes, rows[k].m) == SPR_DONE);
         CHECK(kept(rows[k].m, 0) && memcmp(bytes, rows[k].record, rows[k].m) == 0);
-        CHECK(spr_decode_ima4(run, n, &q, &j, samples, m) == SPR_DONE && p == q && i == j);
+        CHECK(spr_decode_ima4(run, n, &t.p, &t.i, &t.c, samples, m) == SPR_DONE && same(s, t) && s.c == 9);
     }
 }
 
-/* A given run from a block on. The states of the record are believed, and none of it is written. */
+/* A given run from a block on. The states of the record are believed, and none of it is written. The count is that
+ * of the blocks from there on. */
 static void from_call(const uint8_t *record, size_t len, size_t n, size_t from, size_t m, int number)
 {
     const int taken = number == SPR_DONE;
-    int16_t *p = predictors + 1, q, out[64];
-    uint8_t *i = indices + 1, j;
+    int16_t *p = predictors + 1, out[64];
+    uint8_t *i = indices + 1;
     fill();
     memcpy(bytes, record, len);
-    CHECK(spr_decode_ima4_from(given_bytes, n, bytes, len, from, p, i, samples, m) == number);
+    CHECK(spr_decode_ima4_from(given_bytes, n, bytes, len, from, p, i, counts + 1, samples, m) == number);
     CHECK(kept(len, taken ? m : 0) && memcmp(bytes, record, len) == 0 && stay_but(taken ? 1 : 0));
     if (!taken)
         return;
     const size_t every = record[3];
-    state_of(record, from / every, &q, &j);
+    struct state s = state_of(record, from / every, 0);
     for (size_t k = from / every * every; k < from; k++)
-        CHECK(spr_decode_ima4(given_bytes + 34 * k, 34, &q, &j, out, 64) == SPR_DONE);
-    ima4_decoded(given_bytes + 34 * from, n / 34 - from, &q, &j);
-    CHECK(*p == q && *i == j);
+        CHECK(spr_decode_ima4(given_bytes + 34 * k, 34, &s.p, &s.i, &s.c, out, 64) == SPR_DONE);
+    s.c = 0;
+    ima4_decoded(given_bytes + 34 * from, n / 34 - from, &s);
+    CHECK(same(new_state(1), s));
 }
 
 /* The record of a given run again. The states behind the block are written, and nothing else. */
 static void reindex_call(const uint8_t *record, size_t len, size_t n, size_t from, int number)
 {
     const size_t every = record[3];
-    int16_t p;
-    uint8_t i;
     fill();
     memcpy(bytes, record, len);
     CHECK(spr_ima4_reindex(given_bytes, n, from, bytes, len) == number);
@@ -119,8 +118,8 @@ static void reindex_call(const uint8_t *record, size_t len, size_t n, size_t fro
         return;
     }
     CHECK(kept(len, 0) && memcmp(bytes, record, 4 + 3 * (from / every + 1)) == 0);
-    state_of(record, from / every, &p, &i);
-    ima4_indexed(given_bytes, from / every * every, n / 34, every, &p, &i);
+    struct state s = state_of(record, from / every, 0);
+    ima4_indexed(given_bytes, from / every * every, n / 34, every, &s);
 }
 
 /* A record with that head, whose states are noise. */
@@ -208,14 +207,28 @@ static void by_record(const uint8_t *block, int predictor, int index, int first)
 {
     const uint8_t state[3] = {(uint8_t)((uint16_t)predictor >> 8), (uint8_t)predictor, (uint8_t)index};
     uint8_t run[68], record[10] = {0, 8, 1, 1};
-    int16_t p = (int16_t)predictor, q;
-    uint8_t i = (uint8_t)index, j;
+    struct state s = {(int16_t)predictor, (uint8_t)index, 0}, t;
     memcpy(run, block, 34), memcpy(run + 34, block, 34), memcpy(record + 4, state, 3);
-    CHECK(spr_decode_ima4(run, 34, &p, &i, samples, 64) == SPR_DONE);
+    CHECK(spr_decode_ima4(run, 34, &s.p, &s.i, &s.c, samples, 64) == SPR_DONE);
     CHECK(spr_ima4_reindex(run, 68, 0, record, 10) == SPR_DONE);
-    state_of(record, 1, &q, &j);
-    CHECK(p == q && i == j && memcmp(record + 4, state, 3) == 0);
-    CHECK(spr_decode_ima4_from(run, 68, record, 10, 0, &q, &j, samples, 128) == SPR_DONE && samples[0] == first);
+    t = state_of(record, 1, s.c);
+    CHECK(same(s, t) && memcmp(record + 4, state, 3) == 0);
+    CHECK(spr_decode_ima4_from(run, 68, record, 10, 0, &t.p, &t.i, &t.c, samples, 128) == SPR_DONE);
+    CHECK(samples[0] == first && spr_decode_ima4(run, 34, &s.p, &s.i, &s.c, samples, 64) == SPR_DONE && same(s, t));
+}
+
+/* Two blocks whose every step is clipped: the count of indexing goes on, and that of decoding begins at the block. */
+static void index_clips(const uint8_t run[68], uint32_t count, uint32_t behind)
+{
+    for (uint8_t every = 1; every <= 2; every++) {
+        const size_t len = SPR_IMA4_INDEX_BYTES(2, every);
+        struct state s = {0, 0, count}, t = s, u = s;
+        uint8_t record[10];
+        CHECK(spr_ima4_index(run, 68, every, &s.p, &s.i, &s.c, record, len) == SPR_DONE && s.c == behind);
+        CHECK(spr_decode_ima4_from(run, 68, record, len, 0, &t.p, &t.i, &t.c, samples, 128) == SPR_DONE);
+        CHECK(spr_decode_ima4_from(run, 68, record, len, 1, &u.p, &u.i, &u.c, samples, 64) == SPR_DONE);
+        CHECK(t.c == 128 && u.c == 64);
+    }
 }
 
 /* Six blocks of 0, which keep a small predictor: each sample is that of the last state at or before the block. */
@@ -236,40 +249,48 @@ static void seek_states(void)
     FOR_EACH(rows) {
         const int16_t x = (int16_t)rows[k].sample;
         const size_t m = 64 * (6 - k);
-        uint8_t record[13], i = 255;
-        int16_t p = 1;
+        struct state s = {1, 255, 9};
+        uint8_t record[13];
         memcpy(record, first, 13);
-        CHECK(spr_decode_ima4_from(run, sizeof run, record, 13, k, &p, &i, samples, m) == SPR_DONE);
-        CHECK(samples[0] == x && samples[m - 1] == x && p == x && i == 0);
+        CHECK(spr_decode_ima4_from(run, sizeof run, record, 13, k, &s.p, &s.i, &s.c, samples, m) == SPR_DONE);
+        CHECK(samples[0] == x && samples[m - 1] == x && same(s, (struct state){x, 0, 0}));
         CHECK(spr_ima4_reindex(run, sizeof run, k, record, 13) == SPR_DONE);
         CHECK(memcmp(record, first, 4) == 0 && memcmp(record + 4, rows[k].states, 9) == 0);
     }
 }
 
-/* 18 blocks with every index, from each of them on; then with others encoded from there on, and reindexed. */
+/* 18 blocks with an index; then with others encoded from a block on, by the state there, and reindexed. */
+static void reindexed(uint8_t run[34 * 18], size_t from, uint8_t every, struct state start, struct state there)
+{
+    uint8_t record[4 + 3 * 18], anew[4 + 3 * 18];
+    const size_t len = SPR_IMA4_INDEX_BYTES(18, every), n = 34 * (18 - from), m = 64 * (18 - from);
+    struct state s = start, t = start, *u = &there;
+    CHECK(spr_ima4_index(run, 34 * 18, every, &s.p, &s.i, &s.c, record, len) == SPR_DONE);
+    CHECK(spr_encode_ima4(given_samples + 5000, m, &u->p, &u->i, &u->c, run + 34 * from, n) == SPR_DONE);
+    CHECK(spr_ima4_reindex(run, 34 * 18, from, record, len) == SPR_DONE);
+    CHECK(spr_ima4_index(run, 34 * 18, every, &t.p, &t.i, &t.c, anew, len) == SPR_DONE);
+    CHECK(memcmp(record, anew, len) == 0);
+}
+
+/* 18 blocks with every index, from each of them on, where the count is that of the blocks that are left. */
 static void seek_runs(void)
 {
-    static uint8_t run[34 * 18], record[4 + 3 * 18], anew[4 + 3 * 18];
+    static uint8_t run[34 * 18], record[4 + 3 * 18];
     static int16_t whole[64 * 18];
     for (row = 0; row < 64 * 18; row++) {
-        const uint8_t every = (uint8_t)(row / 18 + 1), raw = (uint8_t)row;
+        const uint8_t every = (uint8_t)(row / 18 + 1);
         const size_t from = (size_t)row % 18, len = SPR_IMA4_INDEX_BYTES(18, every), m = 64 * (18 - from);
-        int16_t p = 77, q = 77;
-        uint8_t i = raw, j = raw;
-        CHECK(spr_encode_ima4(given_samples + row, 64 * 18, &p, &i, run, 34 * 18) == SPR_DONE);
-        p = 77, i = raw;
-        CHECK(spr_decode_ima4(run, 34 * 18, &p, &i, whole, 64 * 18) == SPR_DONE);
-        CHECK(spr_ima4_index(run, 34 * 18, every, &q, &j, record, len) == SPR_DONE && p == q && i == j);
-        q = 1, j = 255;
-        CHECK(spr_decode_ima4_from(run, 34 * 18, record, len, from, &q, &j, samples, m) == SPR_DONE);
-        CHECK(memcmp(samples, whole + 64 * from, m * sizeof *samples) == 0 && p == q && i == j);
-        q = 77, j = raw;
-        CHECK(spr_decode_ima4(run, 34 * from, &q, &j, samples, 64 * from) == SPR_DONE);
-        CHECK(spr_encode_ima4(given_samples + 5000, m, &q, &j, run + 34 * from, 34 * (18 - from)) == SPR_DONE);
-        CHECK(spr_ima4_reindex(run, 34 * 18, from, record, len) == SPR_DONE);
-        q = 77, j = raw;
-        CHECK(spr_ima4_index(run, 34 * 18, every, &q, &j, anew, len) == SPR_DONE);
-        CHECK(memcmp(record, anew, len) == 0);
+        const struct state start = {77, (uint8_t)row, 9};
+        struct state s = start, t = start, u = start;
+        CHECK(spr_encode_ima4(given_samples + row, 64 * 18, &s.p, &s.i, &s.c, run, 34 * 18) == SPR_DONE);
+        s = start;
+        CHECK(spr_decode_ima4(run, 34 * 18, &s.p, &s.i, &s.c, whole, 64 * 18) == SPR_DONE);
+        CHECK(spr_ima4_index(run, 34 * 18, every, &t.p, &t.i, &t.c, record, len) == SPR_DONE && same(s, t));
+        CHECK(spr_decode_ima4(run, 34 * from, &u.p, &u.i, &u.c, samples, 64 * from) == SPR_DONE);
+        CHECK(spr_decode_ima4_from(run, 34 * 18, record, len, from, &t.p, &t.i, &t.c, samples, m) == SPR_DONE);
+        t.c += u.c;
+        CHECK(memcmp(samples, whole + 64 * from, m * sizeof *samples) == 0 && same(s, t));
+        reindexed(run, from, every, start, u);
     }
 }
 
@@ -278,18 +299,21 @@ static void seek_cuts(void)
 {
     static uint8_t run[34 * 18], record[4 + 3 * 18];
     static int16_t whole[64 * 18];
-    int16_t p = 77, q = 77;
-    uint8_t i = 200, j = 200;
-    CHECK(spr_encode_ima4(given_samples, 64 * 18, &p, &i, run, 34 * 18) == SPR_DONE);
-    p = 77, i = 200;
-    CHECK(spr_decode_ima4(run, 34 * 18, &p, &i, whole, 64 * 18) == SPR_DONE);
+    const struct state start = {77, 200, 9};
+    struct state s = start;
+    CHECK(spr_encode_ima4(given_samples, 64 * 18, &s.p, &s.i, &s.c, run, 34 * 18) == SPR_DONE);
+    s = start;
+    CHECK(spr_decode_ima4(run, 34 * 18, &s.p, &s.i, &s.c, whole, 64 * 18) == SPR_DONE);
     for (row = 0; row < 18; row++) {
         const size_t cut = (size_t)row, n = 34 * (18 - cut), m = 64 * (18 - cut);
-        const size_t len = SPR_IMA4_INDEX_BYTES(cut, 5), other_len = SPR_IMA4_INDEX_BYTES(18 - cut, 5);
-        q = 77, j = 200;
-        CHECK(spr_ima4_index(run, 34 * cut, 5, &q, &j, record, len) == SPR_DONE);
-        CHECK(spr_ima4_index(run + 34 * cut, n, 5, &q, &j, record, other_len) == SPR_DONE && p == q && i == j);
-        CHECK(spr_decode_ima4_from(run + 34 * cut, n, record, other_len, 0, &q, &j, samples, m) == SPR_DONE);
-        CHECK(memcmp(samples, whole + 64 * cut, m * sizeof *samples) == 0 && p == q && i == j);
+        const size_t len = SPR_IMA4_INDEX_BYTES(cut, 5), other = SPR_IMA4_INDEX_BYTES(18 - cut, 5);
+        const uint8_t *rest = run + 34 * cut;
+        struct state t = start;
+        CHECK(spr_ima4_index(run, 34 * cut, 5, &t.p, &t.i, &t.c, record, len) == SPR_DONE);
+        const uint32_t before = t.c;
+        CHECK(spr_ima4_index(rest, n, 5, &t.p, &t.i, &t.c, record, other) == SPR_DONE && same(s, t));
+        CHECK(spr_decode_ima4_from(rest, n, record, other, 0, &t.p, &t.i, &t.c, samples, m) == SPR_DONE);
+        t.c += before;
+        CHECK(memcmp(samples, whole + 64 * cut, m * sizeof *samples) == 0 && same(s, t));
     }
 }
