@@ -287,6 +287,7 @@ static void seek_runs(void)
         CHECK(spr_decode_ima4(run, 34 * 18, &s.p, &s.i, &s.c, whole, 64 * 18) == SPR_DONE);
         CHECK(spr_ima4_index(run, 34 * 18, every, &t.p, &t.i, &t.c, record, len) == SPR_DONE && same(s, t));
         CHECK(spr_decode_ima4(run, 34 * from, &u.p, &u.i, &u.c, samples, 64 * from) == SPR_DONE);
+        t = (struct state){1, 255, 3};
         CHECK(spr_decode_ima4_from(run, 34 * 18, record, len, from, &t.p, &t.i, &t.c, samples, m) == SPR_DONE);
         t.c += u.c;
         CHECK(memcmp(samples, whole + 64 * from, m * sizeof *samples) == 0 && same(s, t));
