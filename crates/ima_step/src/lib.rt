@@ -1,6 +1,9 @@
 // One step of IMA ADPCM, as a block's loop calls it: the table lent, and a state that is wide inside. `decode_step` decodes a nibble, `encode_step` encodes a sample.
 mod nibble;
+mod sums;
 
+use halves::high_nibble;
+use halves::low_nibble;
 use ima_arithmetic::difference;
 use ima_arithmetic::greedy_take;
 use ima_arithmetic::hold;
@@ -9,14 +12,16 @@ use ima_arithmetic::takes;
 use ima_arithmetic::tally;
 use ima_arithmetic::towards;
 use nibble::absolute;
+use nibble::change;
 use nibble::exact_sum;
 use nibble::next_index;
 use nibble::raise_index;
 use nibble::reach_count;
 use nibble::step;
 use num::lesser;
+use sums::hold_both;
 ghost use mathlib.Core.Path.{_≡_};
-ghost use Prim.Native.Nat.{_<_};
+ghost use Prim.Native.Nat.{_/_, _%_, _<_};
 ghost use Rattle.ima_nibble.specs.Step.{sixteen, stepped, emitted};
 ghost use Rattle.ima_step.specs.View.{wideOf};
 
@@ -26,6 +31,12 @@ pub struct Wide {
     pub predictor: i16,
     pub clipped: u32,
     pub index: usize,
+}
+
+// The two samples of a byte: the first, and the state behind the second, whose predictor is the second.
+pub struct Pair {
+    pub first: i16,
+    pub next: Wide,
 }
 
 pub struct Coded {
@@ -47,6 +58,28 @@ impl Wide {
             predictor: held.predictor,
             clipped: held.clipped,
             index,
+        }
+    }
+
+    // The two nibbles of a byte, the low one first, with one test of both sums.
+    pub fn decode_byte(self, steps: &[u16; 89], byte: u8) -> Pair
+        ensures { λ r. ⌜ (wideOf (r .next) ≡ stepped sixteen (now (steps .entry)) (stepped sixteen (now (steps .entry)) (wideOf self) (byte % 16)) (byte / 16)) × (r .first ≡ stepped sixteen (now (steps .entry)) (wideOf self) (byte % 16) .predictor) ⌝ }
+    {
+        let low = low_nibble(byte);
+        let high = high_nibble(byte);
+        let place = lesser(self.index, 88);
+        let sum = exact_sum(step(steps, place), self.predictor, low);
+        let between = next_index(place, low);
+        let x = change(step(steps, between), high);
+        let index = next_index(between, high);
+        let both = hold_both(sum, x, self.clipped);
+        Pair {
+            first: both.first,
+            next: Self {
+                predictor: both.second,
+                clipped: both.clipped,
+                index,
+            },
         }
     }
 

@@ -6,7 +6,7 @@ use num::monus;
 ghost use mathlib.Core.Path.{_≡_};
 ghost use mathlib.Core.Bool.{cond};
 ghost use Prim.Native.Nat.{_+_, _-_, _*_, _/_, _≤_, _<_, min};
-ghost use lib.IntN.{pos, negℤ, natAbs};
+ghost use lib.IntN.{pos, negℤ, natAbs, _+ℤ_};
 ghost use lib.ListN.{getD};
 ghost use lib.Signed.{mag};
 ghost use Rattle.ima_nibble.specs.Step as Step;
@@ -28,13 +28,20 @@ fn extend(x: u16) -> u32
 
 pub(crate) fn exact_sum(s: u32, predictor: i16, nibble: u32) -> i32
     requires { ⌜ s < 65536 ⌝ }
-    ensures { λ r. ⌜ r ≡ exactSum s predictor nibble ⌝ }
+    ensures { λ r. ⌜ (r ≡ exactSum s predictor nibble) × (mag r ≤ 163840) ⌝ }
 {
-    predictor as i32 + change(s, nibble)
+    total(predictor, change(s, nibble))
+}
+
+pub(crate) fn total(predictor: i16, x: i32) -> i32
+    requires { ⌜ mag x ≤ 131072 ⌝ }
+    ensures { λ r. ⌜ (r ≡ predictor +ℤ x) × (mag r ≤ 163840) ⌝ }
+{
+    predictor as i32 + x
 }
 
 // Bit 8 subtracts, otherwise it is added.
-fn change(s: u32, nibble: u32) -> i32
+pub(crate) fn change(s: u32, nibble: u32) -> i32
     requires { ⌜ s < 65536 ⌝ }
     ensures { λ r. ⌜ (r ≡ cond (bit 8 nibble) (negℤ (pos (d s nibble))) (pos (d s nibble))) × (mag r ≤ 131072) ⌝ }
 {
@@ -53,7 +60,7 @@ fn size(s: u32, nibble: u32) -> u32
 // The move of a nibble with bit 4 is twice its two lower bits and 2, and that of any other -1. Both are one less than what is added.
 pub(crate) fn next_index(index: usize, nibble: u32) -> usize
     requires { ⌜ index ≤ 88 ⌝ }
-    ensures { λ r. ⌜ r ≡ indexed 88 index nibble ⌝ }
+    ensures { λ r. ⌜ (r ≡ indexed 88 index nibble) × (r ≤ 88) ⌝ }
 {
     let raised = index + part(nibble / 4, 2 * (nibble % 4) + 3) as usize;
     lesser(monus(raised, 1), 88)

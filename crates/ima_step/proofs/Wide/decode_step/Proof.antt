@@ -20,7 +20,7 @@ returns c =
     let f : SFits w16 (s .args .self .predictor) = search (needs, at-sum .before .struct-told .given) in
     let g : SFits w16 (at-hold .hold .result .predictor) = search (needs, c .struct-told2 .given) in
     let x : SFits w32 (at-sum .exact-sum .result) = search (needs, at-sum .exact-sum) in
-    rw (toZ-ofZ w16 _ g, at-hold .hold .ensures .0, at-hold .hold .ensures .1, toZ-ofZ w32 _ x, at-sum .exact-sum .ensures, toZ-ofZ w16 _ f, at-index .next-index .ensures, at-step .step .ensures .0, at-place .lesser .ensures) refl
+    rw (toZ-ofZ w16 _ g, at-hold .hold .ensures .0, at-hold .hold .ensures .1, toZ-ofZ w32 _ x, at-sum .exact-sum .ensures .0, toZ-ofZ w16 _ f, at-index .next-index .ensures .0, at-step .step .ensures .0, at-place .lesser .ensures) refl
 
 pub decode-step-spec : {M : Type 1} → statement M
 decode-step-spec =
