@@ -1,8 +1,6 @@
 // ima4 blocks to samples, one at a time and in runs. A state goes in by value and comes back.
 use adpcm_ima::AdpcmImaState;
 use adpcm_ima::IMA_STEP_TABLE;
-use halves::high_nibble;
-use halves::low_nibble;
 use ima4_call::Answer;
 use ima4_call::is_block;
 use ima4_call::is_run;
@@ -24,10 +22,9 @@ pub fn decode_adpcm_ima_ima4(buf: &[u8], state: AdpcmImaState, out_samples: &mut
     let mut wide = start_state(state, buf[0], buf[1]).widen();
     let mut k = 0;
     while k < 32 {
-        let byte = buf[k + 2];
-        let between = wide.decode_step(&steps, low_nibble(byte));
-        wide = between.decode_step(&steps, high_nibble(byte));
-        let first = between.predictor;
+        let pair = wide.decode_byte(&steps, buf[k + 2]);
+        wide = pair.next;
+        let first = pair.first;
         let second = wide.predictor;
         out_samples[2 * k] = first;
         out_samples[2 * k + 1] = second;

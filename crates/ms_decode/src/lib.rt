@@ -1,7 +1,5 @@
 // An MS block to samples, in lenient reading. Each channel starts from its header, so no state goes in or comes back; each counts its clipped steps from 0.
 use adpcm_ima::IMA_STEP_TABLE;
-use halves::high_nibble;
-use halves::low_nibble;
 use ima_step::Wide;
 use ms_layout::MOST;
 use ms_layout::head;
@@ -96,10 +94,9 @@ fn groups(
             // a group starts at frame 8 g + 1, and the samples of a channel stand c apart
             let mut k = c * (8 * g + 1) + ch;
             while at < end {
-                let byte = buf[at];
-                let between = wide.decode_step(&steps, low_nibble(byte));
-                wide = between.decode_step(&steps, high_nibble(byte));
-                let first = between.predictor;
+                let pair = wide.decode_byte(&steps, buf[at]);
+                wide = pair.next;
+                let first = pair.first;
                 let second = wide.predictor;
                 out_samples[k] = first;
                 out_samples[k + c] = second;

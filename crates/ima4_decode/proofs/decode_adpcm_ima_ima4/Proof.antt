@@ -1,9 +1,9 @@
 -- `ima4_decode::decode_adpcm_ima_ima4` meets its contract: a turn decodes a byte, so what is written and then what the rest decodes to is the block's. Assumes nothing.
 use mathlib.Core.Path.{_≡_, refl, sym, ap, _∙_, subst}
 use mathlib.Core.Bool.{true}
-use Prim.Native.Nat.{ℕ, _+_, _-_, _*_, _≤_, _<_}
+use Prim.Native.Nat.{ℕ, _+_, _-_, _*_, _%_, _≤_, _<_}
 use native.Mathlib.Omega.{arith}
-use lib.ListN.{length, set, take, length-set}
+use lib.ListN.{length, getD, set, take, length-set}
 use mir.Syntax.{w16}
 use mir.Val.{SFits, toZ, ofZ}
 use mir.ValLaws.{toZ-ofZ}
@@ -52,39 +52,40 @@ tested c = c .before .before .before .before
 loop-holds : tie.Need-loop-holds Inv-loop μ-loop
 loop-holds c = let (b, o) = lengths (tested c) in (refl, b, o, omega arith, c .widen .ensures .1)
 
+-- the test of the loop, from behind a byte
+abbrev turning : tie.After-decode-byte Inv-loop μ-loop → tie.In-loop Inv-loop μ-loop
+turning c = c .before .before .before
+
 second-place : tie.Need-slice-set-from-second Inv-loop μ-loop
 second-place c =
-    let at-high = c .before .before .before in
-    let at-low = at-high .before .before .before in
-    let test = at-low .before .before .before in
+    let at-byte = c .before .before .before in
+    let test = turning at-byte in
     let at = test .before in
-    let x = toZ w16 (ofZ w16 (at-high .before .before .decode-step .result .predictor)) in
+    let x = toZ w16 (ofZ w16 (at-byte .decode-byte .result .first)) in
     omega (arith, length-set (at .loop .out-samples) (2 * at .loop .k) x, at .loop .inv .2, test .loop-test .taken)
 
 loop-again : tie.Need-loop-again Inv-loop μ-loop
 unfolding imaSteps
 loop-again c =
-    let at-high = c .before .before .before in
-    let at-low = at-high .before .before .before in
-    let test = at-low .before .before .before in
+    let at-byte = c .before .before .before in
+    let test = turning at-byte in
     let at = test .before in
     let inv = at .loop .inv in
     let k = at .loop .k in
     let w = wideOf (at .loop .wide) in
     let out = at .loop .out-samples in
     let bytes = tested (at .before) .before .before .before .args .buf .now in
-    let first = at-high .before .before .decode-step in
-    let second = c .before .before .decode-step2 in
-    let f : SFits w16 (first .result .predictor) = search needs in
-    let g : SFits w16 (second .result .predictor) = search needs in
-    let low = first .ensures ∙ ap (stepped sixteen imaSteps w) (at-low .low-nibble .ensures) in
-    let high = second .ensures ∙ ap (stepped sixteen imaSteps (wideOf (first .result))) (at-high .high-nibble .ensures) in
+    let pair = at-byte .decode-byte in
+    let f : SFits w16 (pair .result .first) = search needs in
+    let g : SFits w16 (pair .result .next .predictor) = search needs in
+    let (next-is, first-is) = pair .ensures in
+    let between = stepped sixteen imaSteps w (getD bytes (k + 2) 0 % 16) in
     let h : k < 32 = test .loop-test .taken in
-    let turn = two-samples imaSteps w (wideOf (first .result)) (wideOf (second .result)) bytes out k low high (omega (arith, inv)) (omega (arith, inv)) in
-    let x = toZ w16 (ofZ w16 (first .result .predictor)) in
-    let y = toZ w16 (ofZ w16 (second .result .predictor)) in
+    let turn = two-samples imaSteps w between (wideOf (pair .result .next)) bytes out k refl next-is (omega (arith, inv)) (omega (arith, inv)) in
+    let x = toZ w16 (ofZ w16 (pair .result .first)) in
+    let y = toZ w16 (ofZ w16 (pair .result .next .predictor)) in
     let size = length-set (set out (2 * k) x) (2 * k + 1) y ∙ length-set out (2 * k) x ∙ inv .2 in
-    (rw (toZ-ofZ w16 _ f, toZ-ofZ w16 _ g) (turn ∙ inv .0), inv .1, size, omega (arith, h), moved-lt imaSteps (wideOf (first .result)) (wideOf (second .result)) _ (second .ensures))
+    (rw (toZ-ofZ w16 _ f, toZ-ofZ w16 _ g, first-is) (turn ∙ inv .0), inv .1, size, omega (arith, h), moved-lt imaSteps between (wideOf (pair .result .next)) _ next-is)
 
 -- where the loop ends
 ends : (c : tie.After-loop Inv-loop μ-loop) → let at = c .before in done (at .loop .out-samples) (wideOf (at .loop .wide)) ≡ samplesFrom imaSteps 0 (wideOf (at .before .widen .result)) (tested (at .before) .before .before .before .args .buf .now)
@@ -130,9 +131,6 @@ decode-adpcm-ima-ima4-spec =
     loop-holds
     (λ c. search needs)
     (λ c. search needs)
-    (λ c κs. search needs)
-    (λ c κs. search needs)
-    (λ c κs. search needs)
     (λ c κs. search needs)
     (λ c. search needs)
     (λ c. search needs)

@@ -1,10 +1,10 @@
 -- `ms_decode::groups` meets its contract: a byte gives two samples of its channel, at their places, and moves that channel's state alone;
 -- between the bytes the loops only pass on from whom to whom. Assumes nothing.
-use mathlib.Core.Path.{_≡_, sym, ap, _∙_, subst}
+use mathlib.Core.Path.{_≡_, refl, sym, ap, _∙_, subst}
 use mathlib.Core.List.{map}
-use Prim.Native.Nat.{ℕ, _+_, _-_, _*_, _<_}
+use Prim.Native.Nat.{ℕ, _+_, _-_, _*_, _%_, _<_}
 use native.Mathlib.Omega.{arith}
-use lib.ListN.{length, set, length-set, length-map}
+use lib.ListN.{length, getD, set, length-set, length-map}
 use mir.Syntax.{w16}
 use mir.Val.{SFits, toZ, ofZ}
 use mir.ValLaws.{toZ-ofZ}
@@ -109,49 +109,47 @@ places c =
     let k-is = inv .4 ∙ ap (λ (f : ℕ). begin loop .args .c * f + loop .loop .ch) (sym (frame-is (inv .1) h)) in
     (k-is, omega (arith, k-is, room (inv .1) h, inv .2), omega (arith, inv .2, inv .1 .block .short))
 
--- a byte's first step, from behind its second
-abbrev halfway : tie.After-struct-told2 Inv-loop2 μ-loop2 Inv-loop μ-loop Inv-block μ-block → tie.After-decode-step Inv-loop2 μ-loop2 Inv-loop μ-loop Inv-block μ-block
-halfway c = c .before .before .before .before .before
+-- the byte, from behind what it gave, and the test of the loop from there
+abbrev decodes : tie.After-struct-told2 Inv-loop2 μ-loop2 Inv-loop μ-loop Inv-block μ-block → tie.After-decode-byte Inv-loop2 μ-loop2 Inv-loop μ-loop Inv-block μ-block
+decodes c = c .before .before .before
 
--- the test of the loop, from behind a byte's first step
-abbrev tested : tie.After-decode-step Inv-loop2 μ-loop2 Inv-loop μ-loop Inv-block μ-block → tie.In-loop2 Inv-loop2 μ-loop2 Inv-loop μ-loop Inv-block μ-block
-tested c = c .before .before .before .before
+abbrev tested : tie.After-decode-byte Inv-loop2 μ-loop2 Inv-loop μ-loop Inv-block μ-block → tie.In-loop2 Inv-loop2 μ-loop2 Inv-loop μ-loop Inv-block μ-block
+tested c = c .before .before .before
 
 mul-first : tie.Need-mul-first Inv-loop2 μ-loop2 Inv-loop μ-loop Inv-block μ-block
-mul-first c = omega (arith, places (tested (halfway c)))
+mul-first c = omega (arith, places (tested (decodes c)))
 
 slice-set-from-first : tie.Need-slice-set-from-first Inv-loop2 μ-loop2 Inv-loop μ-loop Inv-block μ-block
-slice-set-from-first c = omega (arith, places (tested (halfway c)))
+slice-set-from-first c = omega (arith, places (tested (decodes c)))
 
 add-second : tie.Need-add-second Inv-loop2 μ-loop2 Inv-loop μ-loop Inv-block μ-block
-add-second c = omega (arith, places (tested (halfway c)))
+add-second c = omega (arith, places (tested (decodes c)))
 
 mul-second : tie.Need-mul-second Inv-loop2 μ-loop2 Inv-loop μ-loop Inv-block μ-block
-mul-second c = omega (arith, places (tested (halfway c)))
+mul-second c = omega (arith, places (tested (decodes c)))
 
 slice-set-from-second : tie.Need-slice-set-from-second Inv-loop2 μ-loop2 Inv-loop μ-loop Inv-block μ-block
 slice-set-from-second c =
-    let at-first = halfway c in
-    let test = tested at-first in
+    let at-byte = decodes c in
+    let test = tested at-byte in
     let loop2 = test .before .loop2 in
-    omega (arith, places test, length-set (loop2 .out-samples) (loop2 .k) (toZ w16 (ofZ w16 (at-first .decode-step .result .predictor))))
+    omega (arith, places test, length-set (loop2 .out-samples) (loop2 .k) (toZ w16 (ofZ w16 (at-byte .decode-byte .result .first))))
 
 add-k-3 : tie.Need-add-k-3 Inv-loop2 μ-loop2 Inv-loop μ-loop Inv-block μ-block
-add-k-3 c = omega (arith, places (tested (halfway c)))
+add-k-3 c = omega (arith, places (tested (decodes c)))
 
 loop2-less : tie.Need-loop2-less Inv-loop2 μ-loop2 Inv-loop μ-loop Inv-block μ-block
-loop2-less c = omega (arith, tested (halfway c) .loop2-test .taken)
+loop2-less c = omega (arith, tested (decodes c) .loop2-test .taken)
 
 loop2-again : tie.Need-loop2-again Inv-loop2 μ-loop2 Inv-loop μ-loop Inv-block μ-block
 unfolding imaSteps
 loop2-again c =
-    let at-second = c .before .before in
-    let at-first = halfway c in
-    let one = at-first .decode-step .result in
-    let two = at-second .decode-step2 .result in
-    let f : SFits w16 (one .predictor) = search needs in
-    let s : SFits w16 (two .predictor) = search needs in
-    let test = tested at-first in
+    let at-byte = decodes c in
+    let pair = at-byte .decode-byte .result in
+    let (next-is, first-is) = at-byte .decode-byte .ensures in
+    let f : SFits w16 (pair .first) = search needs in
+    let s : SFits w16 (pair .next .predictor) = search needs in
+    let test = tested at-byte in
     let at = test .before in
     let loop = outer (at .before) in
     let a = begin loop .args in
@@ -163,13 +161,12 @@ loop2-again c =
     let out = at .loop2 .out-samples in
     let wides = map wideOf (loop .loop .wides) in
     let wide = wideOf (at .loop2 .wide) in
-    let x = toZ w16 (ofZ w16 (one .predictor)) in
-    let y = toZ w16 (ofZ w16 (two .predictor)) in
-    let low = at-first .decode-step .ensures ∙ ap (stepped sixteen imaSteps wide) (at-first .before .low-nibble .ensures) in
-    let high = at-second .decode-step2 .ensures ∙ ap (stepped sixteen imaSteps (wideOf one)) (at-second .before .high-nibble .ensures) in
+    let between = stepped sixteen imaSteps wide (getD (a .buf .now) (at .loop2 .at) 0 % 16) in
+    let x = toZ w16 (ofZ w16 (pair .first)) in
+    let y = toZ w16 (ofZ w16 (pair .next .predictor)) in
     let some : ch < length wides = omega (arith, inv .1 .channel, inv .1 .block .few, length-map (loop .loop .wides) wideOf, inv .3) in (
-      byte-turn (a .c) (omega (arith, inv .1 .channel)) (a .buf .now) (inv .1) h k out wides wide (wideOf one) (wideOf two) x y
-          (places test .0) (inv .2) some low high (toZ-ofZ w16 _ f) (toZ-ofZ w16 _ s) (inv .0),
+      byte-turn (a .c) (omega (arith, inv .1 .channel)) (a .buf .now) (inv .1) h k out wides wide between (wideOf (pair .next)) x y
+          (places test .0) (inv .2) some refl next-is (toZ-ofZ w16 _ f ∙ first-is) (toZ-ofZ w16 _ s) (inv .0),
       bytes-next g ch (loop .loop .at) (at .before .before .lesser .result) (at .loop2 .at) (inv .1) h,
       length-set (set out k x) (k + a .c) y ∙ length-set out k x ∙ inv .2,
       inv .3,
@@ -234,9 +231,6 @@ groups-spec =
     (λ c. search needs)
     loop2-holds
     (λ c. search needs)
-    (λ c κs. search needs)
-    (λ c κs. search needs)
-    (λ c κs. search needs)
     (λ c κs. search needs)
     mul-first
     slice-set-from-first
