@@ -22,7 +22,8 @@ pub fn decode_adpcm_ima_ima4(buf: &[u8], state: AdpcmImaState, out_samples: &mut
     let mut wide = start_state(state, buf[0], buf[1]).widen();
     let mut k = 0;
     while k < 32 {
-        let pair = wide.decode_byte(&steps, buf[k + 2]);
+        let byte = buf[k + 2];
+        let pair = wide.decode_byte(&steps, byte);
         wide = pair.next;
         let first = pair.first;
         let second = wide.predictor;

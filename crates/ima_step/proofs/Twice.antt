@@ -6,19 +6,13 @@ use Prim.Native.Nat.{ℕ, _≤_, min}
 use native.Mathlib.Omega.{arith}
 use lib.IntN.{ℤ, pos, negsuc, negℤ, _+ℤ_, _-ℤ_}
 use lib.ListN.{getD}
-use Rattle.num.specs.Clamp.{clamp, outside}
 use Rattle.ima_nibble.specs.Step.{State, state, sixteen, stepped, stepAt, predicted, indexed, exactSum, tallied, bit, d}
+use Rattle.ima_step.specs.Private.{held, leaves}
 
 -- adding d negated is subtracting it
 pub either : (p x : ℤ) (is : Bool) → p +ℤ cond is (negℤ x) x ≡ cond is (p -ℤ x) (p +ℤ x)
 either p x true = refl
 either p x false = refl
-
-abbrev pub held : ℤ → ℤ
-held x = clamp (negsuc 32767) (pos 32767) x
-
-abbrev pub leaves : ℤ → Bool
-leaves x = outside (negsuc 32767) (pos 32767) x
 
 -- one nibble from its sum, and the next from its change and the index between them
 module _ (steps : List ℕ) (st : State) (v w b : ℕ) (sum x : ℤ)

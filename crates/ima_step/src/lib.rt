@@ -67,9 +67,9 @@ impl Wide {
     {
         let low = low_nibble(byte);
         let high = high_nibble(byte);
-        let place = lesser(self.index, 88);
-        let sum = exact_sum(step(steps, place), self.predictor, low);
-        let between = next_index(place, low);
+        let first = lesser(self.index, 88);
+        let sum = exact_sum(step(steps, first), self.predictor, low);
+        let between = next_index(first, low);
         let x = change(step(steps, between), high);
         let index = next_index(between, high);
         let both = hold_both(sum, x, self.clipped);

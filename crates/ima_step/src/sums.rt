@@ -1,14 +1,10 @@
 // Two exact sums, one behind the other, as 16 bits hold them.
-use ima_arithmetic::hold;
 use crate::nibble::total;
+use ima_arithmetic::hold;
 use num::outside;
-ghost use mathlib.Core.Path.{_≡_};
 ghost use Prim.Native.Nat.{_≤_};
-ghost use lib.IntN.{pos, negsuc, _+ℤ_};
 ghost use lib.Signed.{mag};
-ghost use Rattle.num.specs.Clamp.{clamp};
-ghost use Rattle.num.specs.Clamp as Clamp;
-ghost use Rattle.ima_nibble.specs.Step.{tallied};
+ghost use Rattle.ima_step.specs.Private.{HeldTwice};
 
 // Where both come to, and the count behind them.
 pub(crate) struct Both {
@@ -20,7 +16,7 @@ pub(crate) struct Both {
 // The first sum, and what is added to where it comes to. Both sums are tested at once: where neither is outside, both are taken as they are.
 pub(crate) fn hold_both(sum: i32, x: i32, clipped: u32) -> Both
     requires { ⌜ (mag sum ≤ 163840) × (mag x ≤ 131072) ⌝ }
-    ensures { λ r. ⌜ (r .first ≡ clamp (negsuc 32767) (pos 32767) sum) × (r .second ≡ clamp (negsuc 32767) (pos 32767) (clamp (negsuc 32767) (pos 32767) sum +ℤ x)) × (r .clipped ≡ tallied 4294967295 (Clamp.outside (negsuc 32767) (pos 32767) (clamp (negsuc 32767) (pos 32767) sum +ℤ x)) (tallied 4294967295 (Clamp.outside (negsuc 32767) (pos 32767) sum) clipped)) ⌝ }
+    ensures { λ r. ⌜ HeldTwice sum x clipped (r .first) (r .second) (r .clipped) ⌝ }
 {
     let next = sum + x;
     if outside(-32768, 32767, sum) || outside(-32768, 32767, next) {
@@ -38,7 +34,7 @@ pub(crate) fn hold_both(sum: i32, x: i32, clipped: u32) -> Both
 // The same, one after the other.
 fn hold_each(sum: i32, x: i32, clipped: u32) -> Both
     requires { ⌜ mag x ≤ 131072 ⌝ }
-    ensures { λ r. ⌜ (r .first ≡ clamp (negsuc 32767) (pos 32767) sum) × (r .second ≡ clamp (negsuc 32767) (pos 32767) (clamp (negsuc 32767) (pos 32767) sum +ℤ x)) × (r .clipped ≡ tallied 4294967295 (Clamp.outside (negsuc 32767) (pos 32767) (clamp (negsuc 32767) (pos 32767) sum +ℤ x)) (tallied 4294967295 (Clamp.outside (negsuc 32767) (pos 32767) sum) clipped)) ⌝ }
+    ensures { λ r. ⌜ HeldTwice sum x clipped (r .first) (r .second) (r .clipped) ⌝ }
 {
     let one = hold(sum, clipped);
     let next = total(one.predictor, x);

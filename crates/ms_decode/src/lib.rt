@@ -94,7 +94,8 @@ fn groups(
             // a group starts at frame 8 g + 1, and the samples of a channel stand c apart
             let mut k = c * (8 * g + 1) + ch;
             while at < end {
-                let pair = wide.decode_byte(&steps, buf[at]);
+                let byte = buf[at];
+                let pair = wide.decode_byte(&steps, byte);
                 wide = pair.next;
                 let first = pair.first;
                 let second = wide.predictor;

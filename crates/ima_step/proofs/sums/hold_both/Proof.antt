@@ -12,7 +12,7 @@ use borrow.Author.Needs.{needs}
 use Rattle.num.proofs.Signed.{mag-add, narrows, narrowed}
 use Rattle.num.proofs.Within.{clamp-inside, mag-clamp}
 use Rattle.ima_nibble.specs.Step.{tallied}
-use Rattle.ima_step.proofs.Twice.{held, leaves}
+use Rattle.ima_step.specs.Private.{held, leaves}
 use Rattle.ima_step.proofs.sums.hold_both.Statement.{statement}
 use Rattle.ima_step.proofs.sums.hold_both.Tie as tie
 
