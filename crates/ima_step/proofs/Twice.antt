@@ -21,20 +21,20 @@ module _ (steps : List ℕ) (st : State) (v w b : ℕ) (sum x : ℤ)
     (small : b ≤ 88)
     (x-is : x ≡ cond (bit 8 w) (negℤ (pos (d (getD steps b 0) w))) (pos (d (getD steps b 0) w)))
   where
-  pub first-is : held sum ≡ stepped sixteen steps st v .predictor
-  unfolding stepped predicted
-  first-is = ap held sum-is
+    pub first-is : held sum ≡ stepped sixteen steps st v .predictor
+    unfolding stepped predicted
+    first-is = ap held sum-is
 
-  one : state (held sum) b (tallied 4294967295 (leaves sum) (st .clipped)) ≡ stepped sixteen steps st v
-  unfolding stepped predicted
-  one = rw (sum-is, b-is) refl
+    one : state (held sum) b (tallied 4294967295 (leaves sum) (st .clipped)) ≡ stepped sixteen steps st v
+    unfolding stepped predicted
+    one = rw (sum-is, b-is) refl
 
-  next : held sum +ℤ x ≡ exactSum (getD steps b 0) (held sum) w
-  next = rw x-is (either (held sum) (pos (d (getD steps b 0) w)) (bit 8 w))
+    next : held sum +ℤ x ≡ exactSum (getD steps b 0) (held sum) w
+    next = rw x-is (either (held sum) (pos (d (getD steps b 0) w)) (bit 8 w))
 
-  pub twice-is : state (held (held sum +ℤ x)) (indexed 88 b w) (tallied 4294967295 (leaves (held sum +ℤ x)) (tallied 4294967295 (leaves sum) (st .clipped))) ≡ stepped sixteen steps (stepped sixteen steps st v) w
-  unfolding stepped predicted stepAt
-  twice-is =
-      let low : min b 88 ≡ b = omega arith in
-      let two : state (held (held sum +ℤ x)) (indexed 88 b w) (tallied 4294967295 (leaves (held sum +ℤ x)) (tallied 4294967295 (leaves sum) (st .clipped))) ≡ stepped sixteen steps (state (held sum) b (tallied 4294967295 (leaves sum) (st .clipped))) w = rw (low, next) refl in
-      two ∙ ap (λ (s : State). stepped sixteen steps s w) one
+    pub twice-is : state (held (held sum +ℤ x)) (indexed 88 b w) (tallied 4294967295 (leaves (held sum +ℤ x)) (tallied 4294967295 (leaves sum) (st .clipped))) ≡ stepped sixteen steps (stepped sixteen steps st v) w
+    unfolding stepped predicted stepAt
+    twice-is =
+        let low : min b 88 ≡ b = omega arith in
+        let two : state (held (held sum +ℤ x)) (indexed 88 b w) (tallied 4294967295 (leaves (held sum +ℤ x)) (tallied 4294967295 (leaves sum) (st .clipped))) ≡ stepped sixteen steps (state (held sum) b (tallied 4294967295 (leaves sum) (st .clipped))) w = rw (low, next) refl in
+        two ∙ ap (λ (s : State). stepped sixteen steps s w) one

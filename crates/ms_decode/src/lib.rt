@@ -22,11 +22,7 @@ pub struct Answer {
     pub clipped: [u32; MOST],
 }
 
-pub fn decode_adpcm_ima_ms_lenient(
-    channels: u8,
-    buf: &[u8],
-    out_samples: &mut [i16],
-) -> Answer
+pub fn decode_adpcm_ima_ms_lenient(channels: u8, buf: &[u8], out_samples: &mut [i16]) -> Answer
     ensures { λ r. ⌜ outcome (r .refusal) (r .clipped) (now («out_samples» .exit)) ≡ decodeMs Lenient channels (now (buf .entry)) (now («out_samples» .entry)) ⌝ }
 {
     let c = channels as usize;
@@ -69,12 +65,7 @@ fn heads(c: usize, buf: &[u8], out_samples: &mut [i16]) -> [Wide; MOST]
 }
 
 // Group by group, four bytes of each channel in turn. A channel's last group may be shorter.
-fn groups(
-    c: usize,
-    buf: &[u8],
-    heads: [Wide; MOST],
-    out_samples: &mut [i16],
-) -> [Wide; MOST]
+fn groups(c: usize, buf: &[u8], heads: [Wide; MOST], out_samples: &mut [i16]) -> [Wide; MOST]
     requires { ⌜ Taken c (length (now buf)) (length (now «out_samples»)) × Headed c (now buf) c (now «out_samples») (map wideOf heads) ⌝ }
     ensures { λ r. ⌜ (now («out_samples» .exit) ≡ decodedMsBlock c (now (buf .entry))) × (countsOf (map wideOf r) ≡ clippedCounts c (now (buf .entry))) ⌝ }
 {

@@ -14,11 +14,7 @@ ghost use Rattle.ms_block.specs.Call.{decodeMs};
 ghost use Rattle.ms_repacked.specs.Repack.{repackMs};
 
 // A refusal by 8 comes after 1 and 2.
-pub fn decode_adpcm_ima_ms(
-    channels: u8,
-    buf: &[u8],
-    out_samples: &mut [i16],
-) -> ms_decode::Answer
+pub fn decode_adpcm_ima_ms(channels: u8, buf: &[u8], out_samples: &mut [i16]) -> ms_decode::Answer
     ensures { λ r. ⌜ outcome (r .refusal) (r .clipped) (now («out_samples» .exit)) ≡ decodeMs Strict channels (now (buf .entry)) (now («out_samples» .entry)) ⌝ }
 {
     let by_lengths = refusal(channels as usize, buf.len(), out_samples.len());

@@ -7,10 +7,7 @@ ghost use lib.ListN.{length};
 pub(crate) fn state_at(bytes: &[u8], at: usize) -> AdpcmImaState
     requires { ⌜ at + 2 < length (now bytes) ⌝ }
 {
-    AdpcmImaState::new().reload(
-        from_halves(bytes[at], bytes[at + 1]),
-        bytes[at + 2],
-    )
+    AdpcmImaState::new().reload(from_halves(bytes[at], bytes[at + 1]), bytes[at + 2])
 }
 
 // A line has no count of clipped steps, so that it is equal in the other two numbers.

@@ -98,10 +98,7 @@ fn state_in(index: &[u8], i: usize) -> AdpcmImaState
     ensures { λ r. ⌜ stateOf r ≡ stateIn (now (index .entry)) i ⌝ }
 {
     let at = 4 + 3 * i;
-    AdpcmImaState::new().reload(
-        from_halves(index[at], index[at + 1]),
-        index[at + 2],
-    )
+    AdpcmImaState::new().reload(from_halves(index[at], index[at + 1]), index[at + 2])
 }
 
 // The state behind whole blocks, each decoded to samples that nobody keeps.

@@ -44,9 +44,10 @@ returns c =
     let sum-is : at-sum .exact-sum .result ≡ exactSum (stepAt sixteen steps st) (a .self .predictor) v = rw (at-sum .exact-sum .ensures .0, toZ-ofZ w16 _ f, low, at-step .step .ensures .0, at-place .lesser .ensures) refl in
     let b-is : b ≡ indexed 88 (min (a .self .index) 88) v = rw (at-between .next-index .ensures .0, low, at-place .lesser .ensures) refl in
     let x-is : at-change .change .result ≡ cond (bit 8 w) (negℤ (pos (d (getD steps b 0) w))) (pos (d (getD steps b 0) w)) = rw (at-change .change .ensures .0, high, at-change .before .step2 .ensures .0) refl in
-    rw (toZ-ofZ w16 _ g, toZ-ofZ w16 _ h, both .ensures .0, both .ensures .1, both .ensures .2, toZ-ofZ w32 _ y, toZ-ofZ w32 _ z, at-index .next-index2 .ensures .0, high)
-    (twice-is steps st v w b (at-sum .exact-sum .result) (at-change .change .result) sum-is b-is (at-between .next-index .ensures .1) x-is,
-    first-is steps st v w b (at-sum .exact-sum .result) (at-change .change .result) sum-is b-is (at-between .next-index .ensures .1) x-is)
+    rw (toZ-ofZ w16 _ g, toZ-ofZ w16 _ h, both .ensures .0, both .ensures .1, both .ensures .2, toZ-ofZ w32 _ y, toZ-ofZ w32 _ z, at-index .next-index2 .ensures .0, high) (
+      twice-is steps st v w b (at-sum .exact-sum .result) (at-change .change .result) sum-is b-is (at-between .next-index .ensures .1) x-is,
+      first-is steps st v w b (at-sum .exact-sum .result) (at-change .change .result) sum-is b-is (at-between .next-index .ensures .1) x-is,
+    )
 
 pub decode-byte-spec : {M : Type 1} → statement M
 decode-byte-spec =

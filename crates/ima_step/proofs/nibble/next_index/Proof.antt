@@ -9,8 +9,7 @@ use Rattle.ima_step.proofs.nibble.next_index.Tie as tie
 
 returns : tie.Need-returns
 returns c =
-    let s = c .before .before .before .args in
-    (
+    let s = c .before .before .before .args in (
       c .lesser .ensures ∙ rw (c .before .monus .ensures, c .before .before .part .ensures .0) (hold 88 (s .nibble) (s .index) (bit 4 (s .nibble)) refl),
       omega (arith, c .lesser .ensures),
     )

@@ -74,8 +74,7 @@ returns-2 c =
     let a = s .args in
     let e = first-inside (c .before .before) in
     let f = second-inside c in
-    let n : a .clipped ≤ 4294967295 = omega (arith, s .fits .clipped .fits) in
-    (
+    let n : a .clipped ≤ 4294967295 = omega (arith, s .fits .clipped .fits) in (
       narrowed (a .sum) (small (a .sum) e) ∙ one (a .sum) (a .x) (a .clipped) n e f,
       rw (exact (a .sum) (a .x) (s .pre .0) (s .pre .1)) (narrowed (a .sum +ℤ a .x) (small (a .sum +ℤ a .x) f)) ∙ two (a .sum) (a .x) (a .clipped) n e f,
       none (a .sum) (a .x) (a .clipped) n e f,
