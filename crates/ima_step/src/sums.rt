@@ -19,7 +19,8 @@ pub(crate) fn hold_both(sum: i32, x: i32, clipped: u32) -> Both
     ensures { λ r. ⌜ HeldTwice sum x clipped (r .first) (r .second) (r .clipped) ⌝ }
 {
     let next = sum + x;
-    if outside(-32768, 32767, sum) || outside(-32768, 32767, next) {
+    let off = outside(-32768, 32767, sum) as u32 + outside(-32768, 32767, next) as u32;
+    if off != 0 {
         return hold_each(sum, x, clipped);
     }
     let first = sum as i16;
