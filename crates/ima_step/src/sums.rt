@@ -19,8 +19,7 @@ pub(crate) fn hold_both(sum: i32, x: i32, clipped: u32) -> Both
     ensures { λ r. ⌜ HeldTwice sum x clipped (r .first) (r .second) (r .clipped) ⌝ }
 {
     let next = sum + x;
-    let off = outside(-32768, 32767, sum) as u32 + outside(-32768, 32767, next) as u32;
-    if off != 0 {
+    if outside(-32768, 32767, sum) || outside(-32768, 32767, next) {
         return hold_each(sum, x, clipped);
     }
     let first = sum as i16;

@@ -1,12 +1,12 @@
 -- `ima_step::sums::hold_both` meets its contract: a sum that is not outside is its own clamp, and is not counted. Assumes nothing.
-use mathlib.Core.Path.{_≡_, refl, sym, ap, ap₂, _∙_, subst}
-use mathlib.Core.Bool.{Bool, true, false}
-use Prim.Native.Nat.{ℕ, _+_, _≤_}
+use mathlib.Core.Path.{_≡_, sym, ap, ap₂, _∙_, subst}
+use mathlib.Core.Bool.{false}
+use Prim.Native.Nat.{ℕ, _≤_}
 use native.Mathlib.Omega.{arith}
 use lib.IntN.{ℤ, pos, negsuc, _+ℤ_}
 use lib.Signed.{mag}
 use mir.Syntax.{w32}
-use mir.Val.{SFits, toZ, ofZ, boolByte}
+use mir.Val.{SFits, toZ, ofZ}
 use mir.ValLaws.{toZ-ofZ}
 use borrow.Author.Needs.{needs}
 use Rattle.num.proofs.Signed.{mag-add, narrows, narrowed}
@@ -42,50 +42,38 @@ module _ (y x : ℤ) (n : ℕ) (h : n ≤ 4294967295) (e : leaves y ≡ false) (
 add-next : tie.Need-add-next
 add-next c = fits (c .args .sum) (c .args .x) (c .pre .0) (c .pre .1)
 
--- what the test says of both
-neither : (a b : Bool) → boolByte a + boolByte b ≡ 0 → (a ≡ false) × (b ≡ false)
-neither true b e = absurd (omega (arith, e))
-neither false true e = absurd (omega (arith, e))
-neither false false e = (refl, refl)
-
-byte-le : (b : Bool) → boolByte b ≤ 1
-byte-le true = omega arith
-byte-le false = omega arith
-
-add-off : tie.Need-add-off
-add-off c = record { fits = omega (arith, byte-le (c .before .outside .result), byte-le (c .outside2 .result)) }
-
-inside : (c : tie.Else1) → let a = c .before .before .before .args in (leaves (a .sum) ≡ false) × (leaves (a .sum +ℤ a .x) ≡ false)
-inside c =
+-- what the two tests say
+first-inside : (c : tie.Else1) → leaves (c .before .before .args .sum) ≡ false
+first-inside c =
     let at = c .before in
-    let s = at .before .before in
+    sym (at .outside .ensures ∙ ap leaves (toZ-ofZ w32 _ (at .before .fits .sum))) ∙ c .if1 .left
+
+second-inside : (c : tie.Else2) → let a = c .before .before .before .before .args in leaves (a .sum +ℤ a .x) ≡ false
+second-inside c =
+    let at = c .before in
+    let s = at .before .before .before in
     let a = s .args in
-    let (one, two) = neither (at .before .outside .result) (at .outside2 .result) (c .if1 .left) in
-    let is = toZ-ofZ w32 _ (fits (a .sum) (a .x) (s .pre .0) (s .pre .1)) ∙ exact (a .sum) (a .x) (s .pre .0) (s .pre .1) in (
-      sym (at .before .outside .ensures ∙ ap leaves (toZ-ofZ w32 _ (s .fits .sum))) ∙ one,
-      sym (at .outside2 .ensures ∙ ap leaves is) ∙ two,
-    )
+    let is = toZ-ofZ w32 _ (fits (a .sum) (a .x) (s .pre .0) (s .pre .1)) ∙ exact (a .sum) (a .x) (s .pre .0) (s .pre .1) in
+    sym (at .outside2 .ensures ∙ ap leaves is) ∙ c .if2 .left
 
 returns : tie.Need-returns
-returns c =
-    let test = c .before in
-    let f = test .before .before .before .fits in
-    rw (toZ-ofZ w32 _ (f .sum), toZ-ofZ w32 _ (f .x)) at (c .hold-each .ensures)
+returns c = let f = c .before .before .before .fits in rw (toZ-ofZ w32 _ (f .sum), toZ-ofZ w32 _ (f .x)) at (c .hold-each .ensures)
 
 cast-first : tie.Need-cast-first
-cast-first c = let s = c .before .before .before in narrows (s .args .sum) (small (s .args .sum) (inside c .0))
+cast-first c = let s = c .before .before .before .before in narrows (s .args .sum) (small (s .args .sum) (first-inside (c .before .before)))
 
 cast-second : tie.Need-cast-second
 cast-second c =
-    let s = c .before .before .before in
+    let s = c .before .before .before .before in
     let a = s .args in
-    rw (exact (a .sum) (a .x) (s .pre .0) (s .pre .1)) (narrows (a .sum +ℤ a .x) (small (a .sum +ℤ a .x) (inside c .1)))
+    rw (exact (a .sum) (a .x) (s .pre .0) (s .pre .1)) (narrows (a .sum +ℤ a .x) (small (a .sum +ℤ a .x) (second-inside c)))
 
 returns-2 : tie.Need-returns-2
 returns-2 c =
-    let s = c .before .before .before in
+    let s = c .before .before .before .before in
     let a = s .args in
-    let (e, f) = inside c in
+    let e = first-inside (c .before .before) in
+    let f = second-inside c in
     let n : a .clipped ≤ 4294967295 = omega (arith, s .fits .clipped .fits) in (
       narrowed (a .sum) (small (a .sum) e) ∙ one (a .sum) (a .x) (a .clipped) n e f,
       rw (exact (a .sum) (a .x) (s .pre .0) (s .pre .1)) (narrowed (a .sum +ℤ a .x) (small (a .sum +ℤ a .x) f)) ∙ two (a .sum) (a .x) (a .clipped) n e f,
@@ -93,17 +81,4 @@ returns-2 c =
     )
 
 pub hold-both-spec : {M : Type 1} → statement M
-hold-both-spec =
-    tie.close
-    (tie.spec
-    add-next
-    (λ c κs. search needs)
-    (λ c. search needs)
-    (λ c κs. search needs)
-    (λ c. search needs)
-    add-off
-    (λ c κs. search needs)
-    returns
-    cast-first
-    cast-second
-    returns-2)
+hold-both-spec = tie.close (tie.spec add-next (λ c κs. search needs) (λ c κs. search needs) (λ c κs. search needs) returns cast-first cast-second returns-2)
