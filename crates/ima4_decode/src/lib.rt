@@ -6,6 +6,7 @@ use ima4_call::is_block;
 use ima4_call::is_run;
 use ima4_call::refuse;
 use ima4_header::start_state;
+use ima_step::Wide;
 ghost use mathlib.Core.Path.{_≡_};
 ghost use Rattle.num.specs.Outcome.{outcome};
 ghost use Rattle.adpcm_ima.specs.View.{stateOf};
@@ -23,10 +24,15 @@ pub fn decode_adpcm_ima_ima4(buf: &[u8], state: AdpcmImaState, out_samples: &mut
     let mut k = 0;
     while k < 32 {
         let byte = buf[k + 2];
+        let index = wide.index_after(byte);
         let pair = wide.decode_byte(&steps, byte);
-        wide = pair.next;
+        wide = Wide {
+            predictor: pair.second,
+            clipped: pair.clipped,
+            index,
+        };
         let first = pair.first;
-        let second = wide.predictor;
+        let second = pair.second;
         out_samples[2 * k] = first;
         out_samples[2 * k + 1] = second;
         k += 1;

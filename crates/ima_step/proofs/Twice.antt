@@ -6,6 +6,7 @@ use Prim.Native.Nat.{ℕ, _≤_, min}
 use native.Mathlib.Omega.{arith}
 use lib.IntN.{ℤ, pos, negsuc, negℤ, _+ℤ_, _-ℤ_}
 use lib.ListN.{getD}
+use Rattle.ima_nibble.proofs.Bounds.{index-le}
 use Rattle.ima_nibble.specs.Step.{State, state, sixteen, stepped, stepAt, predicted, indexed, exactSum, tallied, bit, d}
 use Rattle.ima_step.specs.Private.{held, leaves}
 
@@ -38,3 +39,15 @@ module _ (steps : List ℕ) (st : State) (v w b : ℕ) (sum x : ℤ)
         let low : min b 88 ≡ b = omega arith in
         let two : state (held (held sum +ℤ x)) (indexed 88 b w) (tallied 4294967295 (leaves (held sum +ℤ x)) (tallied 4294967295 (leaves sum) (st .clipped))) ≡ stepped sixteen steps (state (held sum) b (tallied 4294967295 (leaves sum) (st .clipped))) w = rw (low, next) refl in
         two ∙ ap (λ (s : State). stepped sixteen steps s w) one
+
+-- the state behind both, from its three numbers
+pub behind : (steps : List ℕ) (st : State) (v w : ℕ) (p : ℤ) (i n : ℕ)
+    → p ≡ stepped sixteen steps (stepped sixteen steps st v) w .predictor
+    → i ≡ indexed 88 (indexed 88 (min (st .index) 88) v) w
+    → n ≡ stepped sixteen steps (stepped sixteen steps st v) w .clipped
+    → state p i n ≡ stepped sixteen steps (stepped sixteen steps st v) w
+unfolding stepped
+behind steps st v w p i n p-is i-is n-is =
+    let between = indexed 88 (min (st .index) 88) v in
+    let low : min between 88 ≡ between = omega (arith, index-le 88 (min (st .index) 88) v) in
+    rw (p-is, i-is, n-is, low) refl

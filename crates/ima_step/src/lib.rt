@@ -21,8 +21,8 @@ use nibble::step;
 use num::lesser;
 use sums::hold_both;
 ghost use mathlib.Core.Path.{_≡_};
-ghost use Prim.Native.Nat.{_/_, _%_, _<_};
-ghost use Rattle.ima_nibble.specs.Step.{sixteen, stepped, emitted};
+ghost use Prim.Native.Nat.{_/_, _%_, _<_, min};
+ghost use Rattle.ima_nibble.specs.Step.{sixteen, stepped, emitted, indexed};
 ghost use Rattle.ima_step.specs.View.{wideOf};
 
 // A predictor, an index that needs no widening before it is a place in the table, and the count of clipped steps. Any index is taken: one above 88 is
@@ -33,10 +33,11 @@ pub struct Wide {
     pub index: usize,
 }
 
-// The two samples of a byte: the first, and the state behind the second, whose predictor is the second.
+// The two samples of a byte, and the count behind them.
 pub struct Pair {
     pub first: i16,
-    pub next: Wide,
+    pub second: i16,
+    pub clipped: u32,
 }
 
 pub struct Coded {
@@ -61,9 +62,10 @@ impl Wide {
         }
     }
 
-    // The two nibbles of a byte, the low one first, with one test of both sums.
+    // The two nibbles of a byte, the low one first, with one test of both sums. The index behind them is a call of its own, `index_after`: in a loop
+    // it then stands before that test.
     pub fn decode_byte(self, steps: &[u16; 89], byte: u8) -> Pair
-        ensures { λ r. ⌜ (wideOf (r .next) ≡ stepped sixteen (now (steps .entry)) (stepped sixteen (now (steps .entry)) (wideOf self) (byte % 16)) (byte / 16)) × (r .first ≡ stepped sixteen (now (steps .entry)) (wideOf self) (byte % 16) .predictor) ⌝ }
+        ensures { λ r. ⌜ (r .first ≡ stepped sixteen (now (steps .entry)) (wideOf self) (byte % 16) .predictor) × (r .second ≡ stepped sixteen (now (steps .entry)) (stepped sixteen (now (steps .entry)) (wideOf self) (byte % 16)) (byte / 16) .predictor) × (r .clipped ≡ stepped sixteen (now (steps .entry)) (stepped sixteen (now (steps .entry)) (wideOf self) (byte % 16)) (byte / 16) .clipped) ⌝ }
     {
         let low = low_nibble(byte);
         let high = high_nibble(byte);
@@ -71,16 +73,16 @@ impl Wide {
         let sum = exact_sum(step(steps, first), self.predictor, low);
         let between = next_index(first, low);
         let x = change(step(steps, between), high);
-        let index = next_index(between, high);
-        let both = hold_both(sum, x, self.clipped);
-        Pair {
-            first: both.first,
-            next: Self {
-                predictor: both.second,
-                clipped: both.clipped,
-                index,
-            },
-        }
+        hold_both(sum, x, self.clipped)
+    }
+
+    // The index behind both nibbles of a byte.
+    pub fn index_after(self, byte: u8) -> usize
+        ensures { λ r. ⌜ r ≡ indexed 88 (indexed 88 (min (self .index) 88) (byte % 16)) (byte / 16) ⌝ }
+    {
+        let first = lesser(self.index, 88);
+        let between = next_index(first, low_nibble(byte));
+        next_index(between, high_nibble(byte))
     }
 
     // The nibble of a sample, and the state behind it, with what both need found once.

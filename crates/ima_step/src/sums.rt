@@ -1,4 +1,5 @@
 // Two exact sums, one behind the other, as 16 bits hold them.
+use crate::Pair;
 use crate::nibble::total;
 use ima_arithmetic::hold;
 use num::outside;
@@ -6,15 +7,8 @@ ghost use Prim.Native.Nat.{_≤_};
 ghost use lib.Signed.{mag};
 ghost use Rattle.ima_step.specs.Private.{HeldTwice};
 
-// Where both come to, and the count behind them.
-pub(crate) struct Both {
-    pub(crate) first: i16,
-    pub(crate) second: i16,
-    pub(crate) clipped: u32,
-}
-
 // The first sum, and what is added to where it comes to. Both sums are tested at once: where neither is outside, both are taken as they are.
-pub(crate) fn hold_both(sum: i32, x: i32, clipped: u32) -> Both
+pub(crate) fn hold_both(sum: i32, x: i32, clipped: u32) -> Pair
     requires { ⌜ (mag sum ≤ 163840) × (mag x ≤ 131072) ⌝ }
     ensures { λ r. ⌜ HeldTwice sum x clipped (r .first) (r .second) (r .clipped) ⌝ }
 {
@@ -24,7 +18,7 @@ pub(crate) fn hold_both(sum: i32, x: i32, clipped: u32) -> Both
     }
     let first = sum as i16;
     let second = next as i16;
-    Both {
+    Pair {
         first,
         second,
         clipped,
@@ -32,14 +26,14 @@ pub(crate) fn hold_both(sum: i32, x: i32, clipped: u32) -> Both
 }
 
 // The same, one after the other.
-fn hold_each(sum: i32, x: i32, clipped: u32) -> Both
+fn hold_each(sum: i32, x: i32, clipped: u32) -> Pair
     requires { ⌜ mag x ≤ 131072 ⌝ }
     ensures { λ r. ⌜ HeldTwice sum x clipped (r .first) (r .second) (r .clipped) ⌝ }
 {
     let one = hold(sum, clipped);
     let next = total(one.predictor, x);
     let two = hold(next, one.clipped);
-    Both {
+    Pair {
         first: one.predictor,
         second: two.predictor,
         clipped: two.clipped,

@@ -86,10 +86,15 @@ fn groups(c: usize, buf: &[u8], heads: [Wide; MOST], out_samples: &mut [i16]) ->
             let mut k = c * (8 * g + 1) + ch;
             while at < end {
                 let byte = buf[at];
+                let index = wide.index_after(byte);
                 let pair = wide.decode_byte(&steps, byte);
-                wide = pair.next;
+                wide = Wide {
+                    predictor: pair.second,
+                    clipped: pair.clipped,
+                    index,
+                };
                 let first = pair.first;
-                let second = wide.predictor;
+                let second = pair.second;
                 out_samples[k] = first;
                 out_samples[k + c] = second;
                 k += 2 * c;

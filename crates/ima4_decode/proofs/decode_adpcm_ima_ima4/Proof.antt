@@ -1,7 +1,7 @@
 -- `ima4_decode::decode_adpcm_ima_ima4` meets its contract: a turn decodes a byte, so what is written and then what the rest decodes to is the block's. Assumes nothing.
 use mathlib.Core.Path.{_≡_, refl, sym, ap, _∙_, subst}
 use mathlib.Core.Bool.{true}
-use Prim.Native.Nat.{ℕ, _+_, _-_, _*_, _%_, _≤_, _<_}
+use Prim.Native.Nat.{ℕ, _+_, _-_, _*_, _/_, _%_, _≤_, _<_}
 use native.Mathlib.Omega.{arith}
 use lib.ListN.{length, getD, set, take, length-set}
 use mir.Syntax.{w16}
@@ -9,9 +9,10 @@ use mir.Val.{SFits, toZ, ofZ}
 use mir.ValLaws.{toZ-ofZ}
 use borrow.Author.Needs.{needs}
 use Rattle.num.specs.Outcome.{outcome}
-use Rattle.ima_nibble.specs.Step.{State, sixteen, stepped}
+use Rattle.ima_nibble.specs.Step.{State, state, sixteen, stepped}
 use Rattle.ima_nibble.specs.Table.{imaSteps}
 use Rattle.ima_step.specs.View.{wideOf}
+use Rattle.ima_step.proofs.Twice.{behind}
 use Rattle.ima_nibble.specs.Series.{done, after}
 use Rattle.ima_nibble.proofs.Bounds.{moved-lt, narrow-below}
 use Rattle.ima4_block.specs.Block.{decodedIma4Block}
@@ -54,7 +55,7 @@ loop-holds c = let (b, o) = lengths (tested c) in (refl, b, o, omega arith, c .w
 
 -- the test of the loop, from behind a byte
 abbrev turning : tie.After-decode-byte Inv-loop μ-loop → tie.In-loop Inv-loop μ-loop
-turning c = c .before .before .before
+turning c = c .before .before .before .before
 
 second-place : tie.Need-slice-set-from-second Inv-loop μ-loop
 second-place c =
@@ -75,17 +76,20 @@ loop-again c =
     let w = wideOf (at .loop .wide) in
     let out = at .loop .out-samples in
     let bytes = tested (at .before) .before .before .before .args .buf .now in
+    let index = at-byte .before .before .index-after in
     let pair = at-byte .decode-byte in
     let f : SFits w16 (pair .result .first) = search needs in
-    let g : SFits w16 (pair .result .next .predictor) = search needs in
-    let (next-is, first-is) = pair .ensures in
-    let between = stepped sixteen imaSteps w (getD bytes (k + 2) 0 % 16) in
-    let h : k < 32 = test .loop-test .taken in
-    let turn = two-samples imaSteps w between (wideOf (pair .result .next)) bytes out k refl next-is (omega (arith, inv)) (omega (arith, inv)) in
+    let g : SFits w16 (pair .result .second) = search needs in
+    let byte = getD bytes (k + 2) 0 in
+    let between = stepped sixteen imaSteps w (byte % 16) in
     let x = toZ w16 (ofZ w16 (pair .result .first)) in
-    let y = toZ w16 (ofZ w16 (pair .result .next .predictor)) in
+    let y = toZ w16 (ofZ w16 (pair .result .second)) in
+    let next = state y (index .result) (pair .result .clipped) in
+    let next-is = behind imaSteps w (byte % 16) (byte / 16) y (index .result) (pair .result .clipped) (toZ-ofZ w16 _ g ∙ pair .ensures .1) (index .ensures) (pair .ensures .2) in
+    let h : k < 32 = test .loop-test .taken in
+    let turn = two-samples imaSteps w between next bytes out k refl next-is (omega (arith, inv)) (omega (arith, inv)) in
     let size = length-set (set out (2 * k) x) (2 * k + 1) y ∙ length-set out (2 * k) x ∙ inv .2 in
-    (rw (toZ-ofZ w16 _ f, toZ-ofZ w16 _ g, first-is) (turn ∙ inv .0), inv .1, size, omega (arith, h), moved-lt imaSteps between (wideOf (pair .result .next)) _ next-is)
+    (rw (toZ-ofZ w16 _ f ∙ pair .ensures .0) (turn ∙ inv .0), inv .1, size, omega (arith, h), moved-lt imaSteps between next (byte / 16) next-is)
 
 -- where the loop ends
 ends : (c : tie.After-loop Inv-loop μ-loop) → let at = c .before in done (at .loop .out-samples) (wideOf (at .loop .wide)) ≡ samplesFrom imaSteps 0 (wideOf (at .before .widen .result)) (tested (at .before) .before .before .before .args .buf .now)
@@ -131,6 +135,7 @@ decode-adpcm-ima-ima4-spec =
     loop-holds
     (λ c. search needs)
     (λ c. search needs)
+    (λ c κs. search needs)
     (λ c κs. search needs)
     (λ c. search needs)
     (λ c. search needs)

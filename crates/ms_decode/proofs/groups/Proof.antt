@@ -2,7 +2,7 @@
 -- between the bytes the loops only pass on from whom to whom. Assumes nothing.
 use mathlib.Core.Path.{_≡_, refl, sym, ap, _∙_, subst}
 use mathlib.Core.List.{map}
-use Prim.Native.Nat.{ℕ, _+_, _-_, _*_, _%_, _<_}
+use Prim.Native.Nat.{ℕ, _+_, _-_, _*_, _/_, _%_, _<_}
 use native.Mathlib.Omega.{arith}
 use lib.ListN.{length, getD, set, length-set, length-map}
 use mir.Syntax.{w16}
@@ -10,9 +10,10 @@ use mir.Val.{SFits, toZ, ofZ}
 use mir.ValLaws.{toZ-ofZ}
 use borrow.Author.Needs.{needs}
 use Rattle.num.proofs.Lists.{map-set, map-kept}
-use Rattle.ima_nibble.specs.Step.{sixteen, stepped}
+use Rattle.ima_nibble.specs.Step.{state, sixteen, stepped}
 use Rattle.ima_nibble.specs.Table.{imaSteps}
 use Rattle.ima_step.specs.View.{wideOf, zeroWide}
+use Rattle.ima_step.proofs.Twice.{behind}
 use Rattle.ms_block.specs.Sizes.{most}
 use Rattle.ms_block.proofs.Sizes.{Shape, shape}
 use Rattle.ms_decode.proofs.Read.{Upto, first, byte-turn, ends}
@@ -110,11 +111,11 @@ places c =
     (k-is, omega (arith, k-is, room (inv .1) h, inv .2), omega (arith, inv .2, inv .1 .block .short))
 
 -- the byte, from behind what it gave, and the test of the loop from there
-abbrev decodes : tie.After-struct-told2 Inv-loop2 μ-loop2 Inv-loop μ-loop Inv-block μ-block → tie.After-decode-byte Inv-loop2 μ-loop2 Inv-loop μ-loop Inv-block μ-block
+abbrev decodes : tie.After-struct-told3 Inv-loop2 μ-loop2 Inv-loop μ-loop Inv-block μ-block → tie.After-decode-byte Inv-loop2 μ-loop2 Inv-loop μ-loop Inv-block μ-block
 decodes c = c .before .before .before
 
 abbrev tested : tie.After-decode-byte Inv-loop2 μ-loop2 Inv-loop μ-loop Inv-block μ-block → tie.In-loop2 Inv-loop2 μ-loop2 Inv-loop μ-loop Inv-block μ-block
-tested c = c .before .before .before
+tested c = c .before .before .before .before
 
 mul-first : tie.Need-mul-first Inv-loop2 μ-loop2 Inv-loop μ-loop Inv-block μ-block
 mul-first c = omega (arith, places (tested (decodes c)))
@@ -146,9 +147,10 @@ unfolding imaSteps
 loop2-again c =
     let at-byte = decodes c in
     let pair = at-byte .decode-byte .result in
-    let (next-is, first-is) = at-byte .decode-byte .ensures in
+    let (first-is, second-is, clipped-is) = at-byte .decode-byte .ensures in
+    let index = at-byte .before .before .index-after in
     let f : SFits w16 (pair .first) = search needs in
-    let s : SFits w16 (pair .next .predictor) = search needs in
+    let s : SFits w16 (pair .second) = search needs in
     let test = tested at-byte in
     let at = test .before in
     let loop = outer (at .before) in
@@ -161,12 +163,15 @@ loop2-again c =
     let out = at .loop2 .out-samples in
     let wides = map wideOf (loop .loop .wides) in
     let wide = wideOf (at .loop2 .wide) in
-    let between = stepped sixteen imaSteps wide (getD (a .buf .now) (at .loop2 .at) 0 % 16) in
+    let byte = getD (a .buf .now) (at .loop2 .at) 0 in
+    let between = stepped sixteen imaSteps wide (byte % 16) in
     let x = toZ w16 (ofZ w16 (pair .first)) in
-    let y = toZ w16 (ofZ w16 (pair .next .predictor)) in
+    let y = toZ w16 (ofZ w16 (pair .second)) in
+    let next = state y (index .result) (pair .clipped) in
+    let next-is = behind imaSteps wide (byte % 16) (byte / 16) y (index .result) (pair .clipped) (toZ-ofZ w16 _ s ∙ second-is) (index .ensures) clipped-is in
     let some : ch < length wides = omega (arith, inv .1 .channel, inv .1 .block .few, length-map (loop .loop .wides) wideOf, inv .3) in (
-      byte-turn (a .c) (omega (arith, inv .1 .channel)) (a .buf .now) (inv .1) h k out wides wide between (wideOf (pair .next)) x y
-          (places test .0) (inv .2) some refl next-is (toZ-ofZ w16 _ f ∙ first-is) (toZ-ofZ w16 _ s) (inv .0),
+      byte-turn (a .c) (omega (arith, inv .1 .channel)) (a .buf .now) (inv .1) h k out wides wide between next x y
+          (places test .0) (inv .2) some refl next-is (toZ-ofZ w16 _ f ∙ first-is) refl (inv .0),
       bytes-next g ch (loop .loop .at) (at .before .before .lesser .result) (at .loop2 .at) (inv .1) h,
       length-set (set out k x) (k + a .c) y ∙ length-set out k x ∙ inv .2,
       inv .3,
@@ -231,6 +236,7 @@ groups-spec =
     (λ c. search needs)
     loop2-holds
     (λ c. search needs)
+    (λ c κs. search needs)
     (λ c κs. search needs)
     mul-first
     slice-set-from-first
