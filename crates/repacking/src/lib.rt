@@ -4,10 +4,9 @@ use adpcm_ima::AdpcmImaState;
 use adpcm_ima::IMA_STEP_TABLE;
 use halves::bits_of;
 use halves::high_half;
-use halves::high_nibble;
 use halves::low_half;
-use halves::low_nibble;
 use halves::pack;
+use ima_step::Wide;
 use ms_layout::head;
 use ms_layout::repack_refusal;
 ghost use mathlib.Core.Path.{_≡_};
@@ -83,10 +82,15 @@ fn channel(c: usize, ch: usize, block: &[u8], out: &mut [u8])
     while d < share {
         let at = 4 * (c * (d / 4) + ch) + d % 4;
         let byte = block[at];
-        let between = reads.decode_step(&steps, low_nibble(byte));
-        reads = between.decode_step(&steps, high_nibble(byte));
-        let first = writes.encode_step(&steps, between.predictor);
-        let second = first.next.encode_step(&steps, reads.predictor);
+        let index = reads.index_after(byte);
+        let pair = reads.decode_byte(&steps, byte);
+        reads = Wide {
+            predictor: pair.second,
+            clipped: pair.clipped,
+            index,
+        };
+        let first = writes.encode_step(&steps, pair.first);
+        let second = first.next.encode_step(&steps, pair.second);
         writes = second.next;
         out[at] = pack(first.nibble, second.nibble);
         d += 1;

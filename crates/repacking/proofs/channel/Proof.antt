@@ -1,16 +1,17 @@
 -- `repacking::channel` meets its contract: a byte is read by one state and written by another, and no other place is touched. Assumes nothing.
 use mathlib.Core.Path.{_≡_, refl, sym, ap, _∙_, subst}
-use Prim.Native.Nat.{ℕ, suc, _+_, _-_, _*_, _/_, _≤_, _<_}
+use Prim.Native.Nat.{ℕ, suc, _+_, _-_, _*_, _/_, _%_, _≤_, _<_}
 use native.Mathlib.Nat.{div-le-self}
 use native.Mathlib.Omega.{arith}
 use lib.ListN.{length, getD, set, length-set}
 use mir.Syntax.{w16}
-use mir.Val.{SFits}
+use mir.Val.{SFits, toZ, ofZ}
 use mir.ValLaws.{toZ-ofZ}
 use borrow.Author.Needs.{needs}
-use Rattle.ima_nibble.specs.Step.{sixteen, stepped, emitted}
+use Rattle.ima_nibble.specs.Step.{state, sixteen, stepped, emitted}
 use Rattle.ima_nibble.specs.Table.{imaSteps}
 use Rattle.ima_step.specs.View.{wideOf}
+use Rattle.ima_step.proofs.Twice.{behind}
 use Rattle.ms_block.specs.Sizes.{samplesOf}
 use Rattle.ms_block.specs.Weave.{place}
 use Rattle.ms_block.proofs.Sizes.{Shape, shape, four-bytes}
@@ -52,7 +53,7 @@ begin c = c .before .before .before .before .before .before .before .before
 
 -- the test of the loop, from behind a turn's last call
 abbrev tested : tie.After-pack Inv-loop μ-loop → tie.In-loop Inv-loop μ-loop
-tested c = c .before .before .before .before .before .before .before .before .before .before .before .before .before .before .before
+tested c = c .before .before .before .before .before .before .before .before .before .before .before .before .before
 
 -- where a byte stands
 there : (c : tie.In-loop Inv-loop μ-loop) → let s = begin (c .before) in (place 4 (s .args .c) (s .args .ch) (c .before .loop .d) < length (s .args .block .now)) × (length (s .args .block .now) ≤ 65535)
@@ -90,12 +91,11 @@ unfolding imaSteps
 loop-again c =
     let at-second = c .before .before in
     let at-first = at-second .before .before .before in
-    let at-high = at-first .before .before .before in
-    let at-low = at-high .before .before .before in
-    let between = at-low .decode-step .result in
-    let after = at-high .decode-step2 .result in
-    let f : SFits w16 (between .predictor) = search needs in
-    let g : SFits w16 (after .predictor) = search needs in
+    let at-byte = at-first .before .before .before .before in
+    let index = at-byte .before .before .index-after in
+    let pair = at-byte .decode-byte in
+    let f : SFits w16 (pair .result .first) = search needs in
+    let g : SFits w16 (pair .result .second) = search needs in
     let first = at-first .encode-step in
     let second = at-second .encode-step2 in
     let test = tested c in
@@ -105,17 +105,20 @@ loop-again c =
     let p = place 4 (a .c) (a .ch) (loop .d) in
     let read = wideOf (loop .reads) in
     let write = wideOf (loop .writes) in
-    let low-is = at-low .decode-step .ensures ∙ ap (stepped sixteen imaSteps read) (at-low .before .low-nibble .ensures) in
-    let high-is = at-high .decode-step2 .ensures ∙ ap (stepped sixteen imaSteps (wideOf between)) (at-high .before .high-nibble .ensures) in
-    let first-is = first .ensures .0 ∙ ap (emitted sixteen imaSteps write) (toZ-ofZ w16 _ f) in
-    let second-is = second .ensures .0 ∙ ap (emitted sixteen imaSteps (wideOf (first .result .next))) (toZ-ofZ w16 _ g) in
+    let byte = getD (a .block .now) p 0 in
+    let between = stepped sixteen imaSteps read (byte % 16) in
+    let y = toZ w16 (ofZ w16 (pair .result .second)) in
+    let after = state y (index .result) (pair .result .clipped) in
+    let after-is = behind imaSteps read (byte % 16) (byte / 16) y (index .result) (pair .result .clipped) (toZ-ofZ w16 _ g ∙ pair .ensures .1) (index .ensures) (pair .ensures .2) in
+    let first-is = first .ensures .0 ∙ ap (emitted sixteen imaSteps write) (toZ-ofZ w16 _ f ∙ pair .ensures .0) in
+    let second-is = second .ensures .0 in
     let packed : c .pack .result ≡ 16 * second .result .nibble + first .result .nibble = c .pack .ensures ∙ omega (arith, first .ensures .1, second .ensures .1) in
     let next : suc (loop .d) ≡ loop .d + 1 = omega arith in
-    let Behind : ℕ → ℕ → Type 0 = λ d byte. Midway (a .c) (a .block .now) (a .ch) d (set (loop .out) p byte) (wideOf after) (wideOf (second .result .next)) in
+    let Behind : ℕ → ℕ → Type 0 = λ d byte. Midway (a .c) (a .block .now) (a .ch) d (set (loop .out) p byte) after (wideOf (second .result .next)) in
     let once =
     turn (a .block .now) (is s) (a .ch) (s .pre .1) (loop .d) (getD (a .block .now) p 0) (first .result .nibble) (second .result .nibble) (loop .out)
-    read (wideOf between) (wideOf after) write (wideOf (first .result .next)) (wideOf (second .result .next))
-    (loop .inv .2) (test .loop-test .taken) (loop .inv .1) refl low-is high-is first-is (first .ensures .2) second-is (second .ensures .2) (loop .inv .0) in (
+    read between after write (wideOf (first .result .next)) (wideOf (second .result .next))
+    (loop .inv .2) (test .loop-test .taken) (loop .inv .1) refl refl after-is first-is (first .ensures .2) second-is (second .ensures .2) (loop .inv .0) in (
       subst (λ (d : ℕ). Behind d (c .pack .result)) next (subst (Behind (suc (loop .d))) (sym packed) once),
       length-set (loop .out) p (c .pack .result) ∙ loop .inv .1,
       omega (arith, loop .inv .2),
@@ -149,8 +152,6 @@ channel-spec =
     mul-at-2
     add-at-2
     shared-slice-read-byte
-    (λ c κs. search needs)
-    (λ c κs. search needs)
     (λ c κs. search needs)
     (λ c κs. search needs)
     (λ c κs. search needs)
