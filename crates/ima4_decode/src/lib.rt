@@ -1,12 +1,12 @@
 // ima4 blocks to samples, one at a time and in runs. A state goes in by value and comes back.
 use adpcm_ima::AdpcmImaState;
 use adpcm_ima::IMA_STEP_TABLE;
+use ima_step::Wide;
 use ima4_call::Answer;
 use ima4_call::is_block;
 use ima4_call::is_run;
 use ima4_call::refuse;
 use ima4_header::start_state;
-use ima_step::Wide;
 ghost use mathlib.Core.Path.{_≡_};
 ghost use Rattle.num.specs.Outcome.{outcome};
 ghost use Rattle.adpcm_ima.specs.View.{stateOf};

@@ -18,8 +18,8 @@ ghost use Rattle.ms_decode.specs.Private.{Headed};
 
 // `refusal` is 0 for done. A refusal leaves the buffer alone, and no step is clipped.
 pub struct Answer {
-    pub refusal: u8,
     pub clipped: [u32; MOST],
+    pub refusal: u8,
 }
 
 pub fn decode_adpcm_ima_ms_lenient(channels: u8, buf: &[u8], out_samples: &mut [i16]) -> Answer

@@ -20,8 +20,8 @@ ghost use Rattle.ms_block.specs.Sizes.{Taken};
 
 // `refusal` is 0 for done. A refusal hands the states back as they came, and leaves the buffer alone.
 pub struct Answer {
-    pub refusal: u8,
     pub states: [AdpcmImaState; MOST],
+    pub refusal: u8,
 }
 
 pub fn encode_adpcm_ima_ms(
