@@ -37,6 +37,9 @@ pub const ONE_GROUP: Size = Size {
     blocks: 1 << 14,
 };
 
+/// The Rust has no counts. They take as long in a block without nibbles as in one of a group.
+const EIGHT_COUNTS: &str = "a call answers eight counts";
+
 pub struct Content {
     name: &'static str,
     size: Size,
@@ -149,7 +152,8 @@ fn decode(blocks: Blocks) -> Row {
         move |block, (): &mut (), samples| ours::decode(channels, block, samples),
         move |block, (): &mut (), samples| oracle::decode(channels, block, samples),
     );
-    Row::new("decode_ms", blocks.name, blocks.number, None, round)
+    let reason = (blocks.size.bytes == ONE_GROUP.bytes).then_some(EIGHT_COUNTS);
+    Row::new("decode_ms", blocks.name, blocks.number, reason, round)
 }
 
 /// Ours is lent three arrays, as over C, and the Rust its states.
