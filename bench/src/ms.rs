@@ -37,9 +37,6 @@ pub const ONE_GROUP: Size = Size {
     blocks: 1 << 14,
 };
 
-/// The Rust has no counts. They take as long in a block without nibbles as in one of a group.
-const EIGHT_COUNTS: &str = "a call answers eight counts";
-
 pub struct Content {
     name: &'static str,
     size: Size,
@@ -152,8 +149,7 @@ fn decode(blocks: Blocks) -> Row {
         move |block, (): &mut (), samples| ours::decode(channels, block, samples),
         move |block, (): &mut (), samples| oracle::decode(channels, block, samples),
     );
-    let reason = (blocks.size.bytes == ONE_GROUP.bytes).then_some(EIGHT_COUNTS);
-    Row::new("decode_ms", blocks.name, blocks.number, reason, round)
+    Row::new("decode_ms", blocks.name, blocks.number, None, round)
 }
 
 /// Ours is lent three arrays, as over C, and the Rust its states.
