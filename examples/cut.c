@@ -47,10 +47,9 @@ int main(void)
     struct state end = zero;
     int16_t spoken[SAMPLES], whole[SAMPLES], parts[SAMPLES];
     uint8_t bytes[BLOCKS * SPR_IMA4_BLOCK_BYTES];
-    uint32_t miss; /* which is not looked at here */
     speak(spoken);
     expect_done(spr_encode_ima4(spoken, SAMPLES, &end.predictor, &end.step_index, &end.clipped, bytes,
-                                sizeof bytes, &miss));
+                                sizeof bytes));
     decode(bytes, BLOCKS, zero, whole);
 
     for (int carry = 1; carry >= 0; carry--) {

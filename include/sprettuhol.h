@@ -14,8 +14,7 @@
  * What holds for all calls:
  *
  * - Every call ends. Whatever the values and the lengths are, it does what it says, or refuses by a number.
- * - A refusal changes nothing: buffers, states and all other numbers hold what they held. The one exception is
- *   `miss`, the number behind the last pointer of spr_encode_ima4 and spr_encode_ms: a refusal stores 0 there.
+ * - A refusal changes nothing: buffers, states and all other numbers hold what they held.
  * - Nothing is allocated, nothing is kept from one call to the next, nothing is locked, and nothing of the
  *   process is touched but what is passed, and the stack. So several threads may call at once, each with
  *   buffers and numbers of its own to write to. What is only read they may share.
@@ -35,8 +34,8 @@
 #include <stddef.h>
 #include <stdint.h>
 
-/* The version of this header, 0.7.0: 10,000 for each major number, 100 for each minor one, 1 for each patch. */
-#define SPR_VERSION 700
+/* The version of this header, 0.6.0: 10,000 for each major number, 100 for each minor one, 1 for each patch. */
+#define SPR_VERSION 600
 
 /* What the calls that can refuse return. Each number is given for its cause alone, and always then; the
  * channel number is tested before the lengths, and these before the step indices of a block. An index of a run is
@@ -108,11 +107,7 @@ uint8_t spr_encode_alaw(int16_t linear);
  * A step is clipped if the exact sum of the predictor and the difference that the nibble stands for is below
  * -32,768 or above 32,767; the new predictor is then that end of the range. A sum of exactly -32,768 or 32,767 is
  * not clipped. The count stops at 4,294,967,295. It changes no sample, no byte and neither of the other two
- * numbers: a caller that does not want it passes a number of 0 and looks no further.
- *
- * An encoder also tells by how much it misses. The miss of a sample is the sample minus the new predictor, which is
- * what the nibble decodes to: -65,535 to 65,535. The encoders of blocks tell the largest of their misses without its
- * sign, 0 to 65,535. `miss` is only written: what it was does not matter. */
+ * numbers: a caller that does not want it passes a number of 0 and looks no further. */
 
 /* One nibble to the sample that is returned. Reads the state and writes the next one: the predictor is then
  * the sample, the index 0 to 88, and the count one more if the step was clipped. Of `nibble` the low four bits
@@ -120,10 +115,8 @@ uint8_t spr_encode_alaw(int16_t linear);
 int16_t spr_decode_adpcm_ima(uint8_t nibble, int16_t *predictor, uint8_t *step_index, uint32_t *clipped);
 
 /* One sample to the nibble that is returned, 0 to 15. Reads the state and writes the next one, which is what
- * decoding the nibble makes of it; writes to `miss` the sample minus the predictor that is now there. An index above
- * 88 is read as 88, and nothing is refused. */
-uint8_t spr_encode_adpcm_ima(int16_t sample, int16_t *predictor, uint8_t *step_index, uint32_t *clipped,
-                             int32_t *miss);
+ * decoding the nibble makes of it. An index above 88 is read as 88, and nothing is refused. */
+uint8_t spr_encode_adpcm_ima(int16_t sample, int16_t *predictor, uint8_t *step_index, uint32_t *clipped);
 
 /* A run of 0 to 1,024 ima4 blocks to samples. A block is 34 bytes, two of header and 64 nibbles, the low half
  * of a byte first. The header is, high byte first, the top nine bits of a predictor and seven of an index.
@@ -145,13 +138,11 @@ uint8_t spr_decode_ima4(const uint8_t *bytes, size_t bytes_len, int16_t *predict
  *
  * Reads `samples` and the state. Writes all of `bytes`, and the state behind the last sample: a run may be cut
  * as in decoding. An index above 88 is lowered to 88 before the first header is written. Where there are no
- * blocks the state stays as it was given. Writes to `miss` the largest miss of all samples without its sign, 0 where
- * there are no blocks. If the index is at most 88, that is the peak that spr_loss tells of the samples and of what
- * `bytes` decodes to from the same state.
+ * blocks the state stays as it was given.
  *
- * SPR_REFUSED_BLOCKS: as in decoding. Then neither `bytes` nor the state changes, and `miss` is 0. */
+ * SPR_REFUSED_BLOCKS: as in decoding. Then neither `bytes` nor the state changes. */
 uint8_t spr_encode_ima4(const int16_t *samples, size_t samples_len, int16_t *predictor, uint8_t *step_index,
-                        uint32_t *clipped, uint8_t *bytes, size_t bytes_len, uint32_t *miss);
+                        uint32_t *clipped, uint8_t *bytes, size_t bytes_len);
 
 /* The index of a run of 0 to 1,024 ima4 blocks: states of its decoder, by which decoding can start at any block.
  * They are those before block 0 and before each `every`-th after it; `every` is 1 to 64. With m states it is a
@@ -238,16 +229,11 @@ uint8_t spr_decode_ms_lenient(uint8_t channels, const uint8_t *block, size_t blo
  * All three arrays have eight elements, whatever the channel number is. Those of channels that are not there come
  * back as they went in.
  *
- * Writes to `miss` the largest miss of all channels without its sign. The first sample of a channel stands in its
- * header as it is, and is not missed; a block of one sample for each channel has a miss of 0. It is the peak that
- * spr_loss tells of the samples and of what `block` decodes to.
- *
- * SPR_REFUSED_CHANNELS and SPR_REFUSED_LENGTHS: as in decoding. Then neither `block` nor a state changes, and
- * `miss` is 0. */
+ * SPR_REFUSED_CHANNELS and SPR_REFUSED_LENGTHS: as in decoding. Then neither `block` nor a state changes. */
 uint8_t spr_encode_ms(uint8_t channels, const int16_t *samples, size_t samples_len,
                       int16_t (*predictors)[SPR_MS_MOST_CHANNELS],
                       uint8_t (*step_indices)[SPR_MS_MOST_CHANNELS], uint32_t (*clipped)[SPR_MS_MOST_CHANNELS],
-                      uint8_t *block, size_t block_len, uint32_t *miss);
+                      uint8_t *block, size_t block_len);
 
 /* An MS block, decoded and encoded again, from the indices of its own header.
  *

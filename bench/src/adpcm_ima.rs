@@ -1,6 +1,6 @@
 //! One nibble of IMA ADPCM a call, each from a state of its own.
 
-use crate::nibble::{oracle, ours, After, Before};
+use crate::nibble::{oracle, ours, Before};
 use crate::timing::{row, shuffled, Row};
 
 const COPY: Option<&str> =
@@ -26,19 +26,12 @@ pub fn rows() -> Vec<Row> {
         row(
             "encode_adpcm_ima",
             &samples,
-            encode,
+            ours::encode,
             oracle::encode,
             entry,
             COPY,
         ),
     ]
-}
-
-/// Ours, without its miss, which the Rust does not tell.
-#[inline(always)]
-fn encode(sample: Before<i16>) -> After<u8> {
-    let ((nibble, _), predictor, index) = ours::encode(sample);
-    (nibble, predictor, index)
 }
 
 /// A call reads the table at the index of its state.

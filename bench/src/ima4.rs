@@ -61,9 +61,6 @@ fn encode(content: &Content, blocks: usize) -> Row<'_> {
     let (bytes, samples) = (blocks * BYTES, blocks * SAMPLES);
     let input = (&content.samples[..], samples);
     let all = content.samples.len();
-    // the Rust tells no miss
-    let ours =
-        |samples: &[_], state: &mut _, bytes: &mut [_]| ours::encode(samples, state, bytes).0;
-    let round = round([all; 2], input, bytes, ours, oracle::encode);
+    let round = round([all; 2], input, bytes, ours::encode, oracle::encode);
     Row::new("encode_ima4", content.name, (blocks, UNIT), None, round)
 }

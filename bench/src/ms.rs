@@ -162,8 +162,7 @@ fn encode(blocks: Blocks) -> Row {
         (blocks.samples, from),
         to,
         move |samples, (predictors, indices, clipped, _): &mut State, block| {
-            let lent = (predictors, indices, clipped);
-            ffi::encode_ms(channels, samples, lent, block, &mut 0)
+            ffi::encode_ms(channels, samples, (predictors, indices, clipped), block)
         },
         move |samples, (.., states): &mut State, block| {
             oracle::encode(channels, samples, states, block)

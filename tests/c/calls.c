@@ -31,77 +31,47 @@ static void laws(void)
     }
 }
 
-/* The first of the eight states is this one, and the others are filled. */
-static void set_first(struct state s)
-{
-    fill();
-    predictors[1] = s.p, indices[1] = s.i, counts[1] = s.c;
-}
-
-static void decoded_nibbles(void)
+static void nibbles(void)
 {
     static const struct {
-        int line;
-        struct state before;
-        uint8_t nibble;
-        int16_t sample;
-        struct state after;
+        int line, encode, predictor, index, in, out, next, next_index;
+        uint32_t count, next_count;
     } rows[] = {
-        {__LINE__, {0, 0, 5}, 7, 11, {11, 8, 5}},
-        {__LINE__, {0, 0, 0}, 15, -11, {-11, 8, 0}},
-        {__LINE__, {0, 0, 5}, 8, 0, {0, 0, 5}},
-        {__LINE__, {0, 255, 5}, 0, 4095, {4095, 87, 5}},
-        {__LINE__, {0, 88, 0}, 7, 32767, {32767, 88, 1}},
-        {__LINE__, {0, 88, 5}, 15, -32768, {-32768, 88, 6}},
-        {__LINE__, {32756, 0, 5}, 7, 32767, {32767, 8, 5}},
-        {__LINE__, {32757, 0, 5}, 7, 32767, {32767, 8, 6}},
-        {__LINE__, {-32757, 0, 5}, 15, -32768, {-32768, 8, 5}},
-        {__LINE__, {-32758, 0, 5}, 15, -32768, {-32768, 8, 6}},
-        {__LINE__, {32757, 0, 4294967293}, 7, 32767, {32767, 8, 4294967294}},
-        {__LINE__, {32757, 0, 4294967294}, 7, 32767, {32767, 8, 4294967295}},
-        {__LINE__, {32757, 0, 4294967295}, 7, 32767, {32767, 8, 4294967295}},
-        {__LINE__, {32756, 0, 4294967294}, 7, 32767, {32767, 8, 4294967294}},
-        {__LINE__, {32756, 0, 4294967295}, 7, 32767, {32767, 8, 4294967295}},
+        {__LINE__, 0, 0, 0, 7, 11, 11, 8, 5, 5},
+        {__LINE__, 0, 0, 0, 15, -11, -11, 8, 0, 0},
+        {__LINE__, 0, 0, 0, 8, 0, 0, 0, 5, 5},
+        {__LINE__, 0, 0, 255, 0, 4095, 4095, 87, 5, 5},
+        {__LINE__, 0, 0, 88, 7, 32767, 32767, 88, 0, 1},
+        {__LINE__, 0, 0, 88, 15, -32768, -32768, 88, 5, 6},
+        {__LINE__, 0, 32756, 0, 7, 32767, 32767, 8, 5, 5},
+        {__LINE__, 0, 32757, 0, 7, 32767, 32767, 8, 5, 6},
+        {__LINE__, 0, -32757, 0, 15, -32768, -32768, 8, 5, 5},
+        {__LINE__, 0, -32758, 0, 15, -32768, -32768, 8, 5, 6},
+        {__LINE__, 0, 32757, 0, 7, 32767, 32767, 8, 4294967293, 4294967294},
+        {__LINE__, 0, 32757, 0, 7, 32767, 32767, 8, 4294967294, 4294967295},
+        {__LINE__, 0, 32757, 0, 7, 32767, 32767, 8, 4294967295, 4294967295},
+        {__LINE__, 0, 32756, 0, 7, 32767, 32767, 8, 4294967294, 4294967294},
+        {__LINE__, 0, 32756, 0, 7, 32767, 32767, 8, 4294967295, 4294967295},
+        {__LINE__, 1, 0, 0, 0, 0, 0, 0, 5, 5},
+        {__LINE__, 1, 0, 0, -1, 9, -1, 0, 0, 0},
+        {__LINE__, 1, 0, 0, 32767, 7, 11, 8, 5, 5},
+        {__LINE__, 1, 32758, 0, 32767, 5, 32766, 4, 5, 5},
+        {__LINE__, 1, 32766, 0, 32767, 1, 32767, 0, 5, 5},
+        {__LINE__, 1, -32767, 0, -32768, 9, -32768, 0, 5, 5},
+        {__LINE__, 1, 0, 88, 32767, 4, 32767, 88, 0, 1},
+        {__LINE__, 1, 0, 88, -32768, 12, -32768, 88, 5, 6},
+        {__LINE__, 1, 32767, 88, 32767, 0, 32767, 87, 4294967294, 4294967295},
+        {__LINE__, 1, 32767, 88, 32767, 0, 32767, 87, 4294967295, 4294967295},
     };
     FOR_EACH(rows) {
-        set_first(rows[k].before);
-        const int16_t sample = spr_decode_adpcm_ima(rows[k].nibble, predictors + 1, indices + 1, counts + 1);
-        CHECK(sample == rows[k].sample && same(new_state(1), rows[k].after) && stay_but(1));
-    }
-}
-
-static void encoded_nibbles(void)
-{
-    static const struct {
-        int line;
-        struct state before;
-        int16_t sample;
-        uint8_t nibble;
-        struct state after;
-        int32_t miss;
-    } rows[] = {
-        {__LINE__, {0, 0, 5}, 0, 0, {0, 0, 5}, 0},
-        {__LINE__, {0, 0, 0}, -1, 9, {-1, 0, 0}, 0},
-        {__LINE__, {0, 0, 5}, 32767, 7, {11, 8, 5}, 32756},
-        {__LINE__, {0, 0, 5}, -32768, 15, {-11, 8, 5}, -32757},
-        {__LINE__, {32758, 0, 5}, 32767, 5, {32766, 4, 5}, 1},
-        {__LINE__, {32766, 0, 5}, 32767, 1, {32767, 0, 5}, 0},
-        {__LINE__, {-32767, 0, 5}, -32768, 9, {-32768, 0, 5}, 0},
-        {__LINE__, {0, 88, 0}, 32767, 4, {32767, 88, 1}, 0},
-        {__LINE__, {0, 88, 5}, -32768, 12, {-32768, 88, 6}, 0},
-        {__LINE__, {32767, 88, 4294967294}, 32767, 0, {32767, 87, 4294967295}, 0},
-        {__LINE__, {32767, 88, 4294967295}, 32767, 0, {32767, 87, 4294967295}, 0},
-        {__LINE__, {32767, 0, 5}, -32768, 15, {32756, 8, 5}, -65524},
-        {__LINE__, {-32768, 0, 5}, 32767, 7, {-32757, 8, 5}, 65524},
-        {__LINE__, {32767, 255, 5}, -32768, 15, {-28669, 88, 5}, -4099},
-    };
-    FOR_EACH(rows) {
-        int32_t cells[3] = {UNTOLD, UNTOLD, UNTOLD};
-        set_first(rows[k].before);
-        const uint8_t nibble =
-            spr_encode_adpcm_ima(rows[k].sample, predictors + 1, indices + 1, counts + 1, cells + 1);
-        CHECK(nibble == rows[k].nibble && same(new_state(1), rows[k].after) && stay_but(1));
-        CHECK(cells[0] == UNTOLD && cells[1] == rows[k].miss && cells[2] == UNTOLD);
+        int16_t *p = predictors + 1;
+        uint8_t *i = indices + 1;
+        uint32_t *c = counts + 1;
+        fill();
+        *p = (int16_t)rows[k].predictor, *i = (uint8_t)rows[k].index, *c = rows[k].count;
+        CHECK(rows[k].out == (rows[k].encode ? spr_encode_adpcm_ima((int16_t)rows[k].in, p, i, c)
+                                             : spr_decode_adpcm_ima((uint8_t)rows[k].in, p, i, c)));
+        CHECK(*p == rows[k].next && *i == rows[k].next_index && *c == rows[k].next_count && stay_but(1));
     }
 }
 
@@ -119,13 +89,12 @@ static void all_nibbles(void)
         const uint8_t byte = (uint8_t)(row % 256), raw = (uint8_t)(row / 256), low = raw < 88 ? raw : 88;
         const struct state given = {from, raw, 0u - (uint32_t)row % 3}, lowered = {from, low, 5};
         struct state s = given, t = lowered, u = given;
-        uint32_t largest = 0;
         const int16_t out = decode_one(byte, &s);
         CHECK(out == s.p && s.i <= 88);
         CHECK(out == decode_one(byte & 15, &t) && same_but_count(s, t));
         s = given, t = lowered;
-        const uint8_t nibble = encode_one(x, &s, &largest);
-        CHECK(nibble <= 15 && nibble == encode_one(x, &t, &largest) && same_but_count(s, t));
+        const uint8_t nibble = encode_one(x, &s);
+        CHECK(nibble <= 15 && nibble == encode_one(x, &t) && same_but_count(s, t));
         CHECK(decode_one(nibble, &u) == s.p && same(s, u));
     }
 }
@@ -154,14 +123,12 @@ static void ima4_lengths(void)
         int16_t *p = predictors + 1;
         uint8_t *i = indices + 1;
         uint32_t *c = counts + 1;
-        struct state s = old_state(1);
         fill();
         CHECK(spr_decode_ima4(given_bytes, rows[k].n, p, i, c, samples, rows[k].m) == rows[k].number);
         CHECK(kept(0, taken ? rows[k].m : 0) && stay_but(1) && stay_but(0) == !moves);
         fill();
-        CHECK(spr_encode_ima4(given_samples, rows[k].m, p, i, c, bytes, rows[k].n, lent_miss()) == rows[k].number);
+        CHECK(spr_encode_ima4(given_samples, rows[k].m, p, i, c, bytes, rows[k].n) == rows[k].number);
         CHECK(kept(taken ? rows[k].n : 0, 0) && stay_but(1) && stay_but(0) == !moves);
-        CHECK(missed(taken ? ima4_encoded(given_samples, rows[k].m / 64, bytes, &s) : 0));
     }
 }
 
@@ -188,7 +155,7 @@ static void ima4_headers(void)
 }
 
 /* A block up and one down, from the ends of the range, so that the second one's header is taken: every step is
- * clipped. So is every step of an encoder that is held at the end, and each hits its sample. */
+ * clipped. So is every step of an encoder that is held at the end. */
 static void ima4_counts(void)
 {
     static const struct {
@@ -211,23 +178,22 @@ static void ima4_counts(void)
         struct state s = {0, 0, rows[k].count}, t = s, u = {0, 88, rows[k].count};
         CHECK(spr_decode_ima4(run, 34, &s.p, &s.i, &s.c, samples, 64) == SPR_DONE && s.c == rows[k].one);
         CHECK(spr_decode_ima4(run, 68, &t.p, &t.i, &t.c, samples, 128) == SPR_DONE && t.c == rows[k].two);
-        CHECK(encode_run(held, 1, &u, block) == 0 && u.c == rows[k].one);
+        CHECK(spr_encode_ima4(held, 64, &u.p, &u.i, &u.c, block, 34) == SPR_DONE && u.c == rows[k].one);
         index_clips(run, rows[k].count, rows[k].two);
     }
 }
 
-/* 9 blocks that were encoded, whole and cut. The larger miss of the parts is that of the whole, and the peak of what
- * is decoded, if the decoder keeps the state. */
+/* 9 blocks that were encoded, whole and cut. */
 static void ima4_encodes(struct state start)
 {
-    struct state s = start, t = start, u = start;
-    const uint32_t whole = encode_run(given_samples, 9, &s, bytes);
-    const uint32_t first = encode_run(given_samples, 4, &t, bytes + 34 * 9);
-    const uint32_t rest = encode_run(given_samples + 64 * 4, 5, &t, bytes + 34 * 13);
+    struct state s = start, t = start;
+    CHECK(spr_encode_ima4(given_samples, 64 * 9, &s.p, &s.i, &s.c, bytes, 34 * 9) == SPR_DONE);
+    ima4_encoded(9, &t);
+    CHECK(same(s, t));
+    s = start;
+    CHECK(spr_encode_ima4(given_samples, 64 * 4, &s.p, &s.i, &s.c, bytes + 34 * 9, 34 * 4) == SPR_DONE);
+    CHECK(spr_encode_ima4(given_samples + 64 * 4, 64 * 5, &s.p, &s.i, &s.c, bytes + 34 * 13, 34 * 5) == SPR_DONE);
     CHECK(memcmp(bytes, bytes + 34 * 9, 34 * 9) == 0 && same(s, t));
-    CHECK((first > rest ? first : rest) == whole);
-    CHECK(spr_decode_ima4(bytes, 34 * 9, &u.p, &u.i, &u.c, samples, 64 * 9) == SPR_DONE);
-    CHECK(start.i > 88 || peak_of(given_samples, samples, 64 * 9) == whole);
 }
 
 /* These, and 9 of noise, whole and cut. */
@@ -275,20 +241,17 @@ static void ms_decode(decoder *decode, uint8_t channels, size_t n, size_t m, int
         ms_decoded(channels, m);
 }
 
-/* Both readings, and the encoder, on given bytes and samples, of lengths that may fit. The miss of what is encoded
- * is the peak of what is decoded. */
+/* Both readings, and the encoder, on given bytes and samples, of lengths that may fit. */
 static void ms_call(uint8_t channels, size_t n, size_t m, int number)
 {
     const int taken = number == SPR_DONE;
     ms_decode(spr_decode_ms_lenient, channels, n, m, number);
     ms_decode(spr_decode_ms, channels, n, m, strictly(channels, given_bytes, number));
     fill();
-    encode_block(channels, given_samples, m, bytes, n, number);
+    CHECK(spr_encode_ms(channels, given_samples, m, all_predictors, all_indices, all_counts, bytes, n) == number);
     CHECK(kept(taken ? n : 0, 0) && stay_but(taken ? channels : 0));
-    if (!taken)
-        return;
-    CHECK(spr_decode_ms_lenient(channels, bytes, n, samples, m, all_counts) == SPR_DONE);
-    CHECK(missed(peak_of(given_samples, samples, m)));
+    if (taken)
+        ms_encoded(channels, m);
 }
 
 static void ms_lengths(void)
@@ -342,7 +305,7 @@ static void ms_repack(repacker *repack, uint8_t channels, const uint8_t *block, 
         indices[1 + c] = block[4 * c + 2] < 88 ? block[4 * c + 2] : 88;
     const size_t m = SPR_MS_SAMPLES(channels, n);
     CHECK(spr_decode_ms_lenient(channels, block, n, samples, m, all_counts) == SPR_DONE);
-    encode_block(channels, samples, m, again, n, SPR_DONE);
+    CHECK(spr_encode_ms(channels, samples, m, all_predictors, all_indices, all_counts, again, n) == SPR_DONE);
     CHECK(memcmp(bytes, again, n) == 0);
     CHECK(repack(channels, bytes, n, twice, n, changed + 1) == SPR_DONE);
     CHECK(changed[1] == 0 && memcmp(bytes, twice, n) == 0);
@@ -482,8 +445,7 @@ int main(void)
     memcpy(first_samples, given_samples, sizeof given_samples);
     CHECK(spr_version() == SPR_VERSION);
     laws();
-    decoded_nibbles();
-    encoded_nibbles();
+    nibbles();
     all_nibbles();
     ima4_lengths();
     ima4_headers();

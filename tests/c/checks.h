@@ -35,11 +35,6 @@ static int16_t (*const all_predictors)[SPR_MS_MOST_CHANNELS] = (int16_t (*)[SPR_
 static uint8_t (*const all_indices)[SPR_MS_MOST_CHANNELS] = (uint8_t (*)[SPR_MS_MOST_CHANNELS])(indices + 1);
 static uint32_t (*const all_counts)[SPR_MS_MOST_CHANNELS] = (uint32_t (*)[SPR_MS_MOST_CHANNELS])(counts + 1);
 
-/* What the encoders of blocks write their miss to, with a guard on both sides. */
-#define UNTOLD 0x5a5a5a5a /* no miss is so large */
-static uint32_t miss_cells[3];
-static uint32_t *const miss = miss_cells + 1;
-
 /* A state by itself: the predictor, the step index, and the count of clipped steps. */
 struct state {
     int16_t p;
@@ -101,19 +96,6 @@ static int stay_but(size_t few)
 static int same(struct state s, struct state t)
 {
     return s.p == t.p && s.i == t.i && s.c == t.c;
-}
-
-/* Fills what a call is to write its miss to. */
-static uint32_t *lent_miss(void)
-{
-    miss_cells[0] = *miss = miss_cells[2] = UNTOLD;
-    return miss;
-}
-
-/* The call has written this miss, and nothing beside it. */
-static int missed(uint32_t number)
-{
-    return miss_cells[0] == UNTOLD && *miss == number && miss_cells[2] == UNTOLD;
 }
 
 /* One of the eight states, counted from 1, as it was filled and as it is. */

@@ -1,5 +1,5 @@
 /* What calls.c holds whole blocks to: the rules of their headers, and single nibbles, whose counts it holds to the
- * rule of clipping, and whose misses to the predictor behind them. An index it holds to single blocks. */
+ * rule of clipping. An index it holds to single blocks. */
 
 /* The differences that nibbles stand for are made of these. */
 static const int steps[89] = {
@@ -28,26 +28,13 @@ static int16_t decode_one(uint8_t nibble, struct state *s)
     return sample;
 }
 
-/* One sample, likewise. Its miss is the sample minus the new predictor, and is kept if it is the largest so far. */
-static uint8_t encode_one(int16_t sample, struct state *s, uint32_t *largest)
+/* One sample, likewise. */
+static uint8_t encode_one(int16_t sample, struct state *s)
 {
     const struct state before = *s;
-    int32_t cells[3] = {UNTOLD, UNTOLD, UNTOLD};
-    const uint8_t nibble = spr_encode_adpcm_ima(sample, &s->p, &s->i, &s->c, cells + 1);
+    const uint8_t nibble = spr_encode_adpcm_ima(sample, &s->p, &s->i, &s->c);
     CHECK(s->c == count_behind(nibble, before));
-    CHECK(cells[0] == UNTOLD && cells[1] == sample - s->p && cells[2] == UNTOLD);
-    const uint32_t apart = (uint32_t)abs(cells[1]);
-    *largest = apart > *largest ? apart : *largest;
     return nibble;
-}
-
-/* What spr_loss tells of the largest difference. */
-static uint32_t peak_of(const int16_t *before, const int16_t *after, size_t n)
-{
-    uint32_t count, first;
-    uint16_t peak;
-    CHECK(spr_loss(before, n, after, n, &count, &first, &peak) == SPR_DONE);
-    return peak;
 }
 
 /* The samples, against the rule of the header and single nibbles from a state, which moves on. No header has a
@@ -64,26 +51,15 @@ static void ima4_decoded(const uint8_t *run, size_t blocks, struct state *s)
     }
 }
 
-/* A run, against its samples, as single nibbles from a state, which moves on. Returns the largest miss. */
-static uint32_t ima4_encoded(const int16_t *from, size_t blocks, const uint8_t *run, struct state *s)
+/* The bytes, against the given samples, as single nibbles. */
+static void ima4_encoded(size_t blocks, struct state *s)
 {
-    uint32_t largest = 0;
     s->i = s->i < 88 ? s->i : 88;
     for (size_t k = 0; k < 64 * blocks; k++) {
-        const uint8_t *block = run + k / 64 * 34;
+        const uint8_t *block = bytes + k / 64 * 34;
         CHECK(k % 64 > 0 || (block[0] << 8 | block[1]) == (((uint16_t)s->p & 0xff80) | s->i));
-        CHECK((block[2 + k % 64 / 2] >> k % 2 * 4 & 15) == encode_one(from[k], s, &largest));
+        CHECK((block[2 + k % 64 / 2] >> k % 2 * 4 & 15) == encode_one(given_samples[k], s));
     }
-    return largest;
-}
-
-/* Samples to one block or more, from a state, which moves on. Returns the miss. */
-static uint32_t encode_run(const int16_t *from, size_t blocks, struct state *s, uint8_t *run)
-{
-    struct state t = *s;
-    CHECK(spr_encode_ima4(from, 64 * blocks, &s->p, &s->i, &s->c, run, 34 * blocks, lent_miss()) == SPR_DONE);
-    CHECK(missed(ima4_encoded(from, blocks, run, &t)) && same(*s, t));
-    return *miss;
 }
 
 /* State number k of a record, which has no count, with that one. */
@@ -129,30 +105,17 @@ static void ms_decoded(size_t channels, size_t m)
         CHECK(counts[1 + c] == 0);
 }
 
-/* A block and the states, against its samples and the states before. Returns the largest miss. */
-static uint32_t ms_encoded(size_t channels, const int16_t *from, size_t m, const uint8_t *block,
-                           const struct state *before)
+/* The bytes and the states, against the given samples, indices and counts. */
+static void ms_encoded(size_t channels, size_t m)
 {
-    uint32_t largest = 0;
     for (size_t c = 0; c < channels; c++) {
-        const uint8_t *head = block + 4 * c;
-        struct state s = {from[c], before[c].i, before[c].c};
+        const uint8_t *head = bytes + 4 * c;
+        struct state s = {given_samples[c], old_indices[1 + c], old_counts[1 + c]};
         CHECK((int16_t)(head[0] | head[1] << 8) == s.p && head[2] == s.i && head[3] == 0);
         for (size_t k = 1; k < m / channels; k++) {
-            const uint8_t nibble = nibble_of(block, channels, c, k) & 15;
-            CHECK(nibble == encode_one(from[channels * k + c], &s, &largest));
+            const uint8_t nibble = nibble_of(bytes, channels, c, k) & 15;
+            CHECK(nibble == encode_one(given_samples[channels * k + c], &s));
         }
         CHECK(same(new_state(1 + c), s));
     }
-    return largest;
-}
-
-/* Samples to a block, if the lengths fit. */
-static void encode_block(uint8_t channels, const int16_t *from, size_t m, uint8_t *block, size_t n, int number)
-{
-    struct state before[SPR_MS_MOST_CHANNELS];
-    for (size_t c = 0; c < SPR_MS_MOST_CHANNELS; c++)
-        before[c] = new_state(1 + c);
-    CHECK(spr_encode_ms(channels, from, m, all_predictors, all_indices, all_counts, block, n, lent_miss()) == number);
-    CHECK(missed(number == SPR_DONE ? ms_encoded(channels, from, m, block, before) : 0));
 }

@@ -263,10 +263,10 @@ static void seek_states(void)
 static void reindexed(uint8_t run[34 * 18], size_t from, uint8_t every, struct state start, struct state there)
 {
     uint8_t record[4 + 3 * 18], anew[4 + 3 * 18];
-    const size_t len = SPR_IMA4_INDEX_BYTES(18, every);
-    struct state s = start, t = start;
+    const size_t len = SPR_IMA4_INDEX_BYTES(18, every), n = 34 * (18 - from), m = 64 * (18 - from);
+    struct state s = start, t = start, *u = &there;
     CHECK(spr_ima4_index(run, 34 * 18, every, &s.p, &s.i, &s.c, record, len) == SPR_DONE);
-    encode_run(given_samples + 5000, 18 - from, &there, run + 34 * from);
+    CHECK(spr_encode_ima4(given_samples + 5000, m, &u->p, &u->i, &u->c, run + 34 * from, n) == SPR_DONE);
     CHECK(spr_ima4_reindex(run, 34 * 18, from, record, len) == SPR_DONE);
     CHECK(spr_ima4_index(run, 34 * 18, every, &t.p, &t.i, &t.c, anew, len) == SPR_DONE);
     CHECK(memcmp(record, anew, len) == 0);
@@ -282,7 +282,7 @@ static void seek_runs(void)
         const size_t from = (size_t)row % 18, len = SPR_IMA4_INDEX_BYTES(18, every), m = 64 * (18 - from);
         const struct state start = {77, (uint8_t)row, 9};
         struct state s = start, t = start, u = start;
-        encode_run(given_samples + row, 18, &s, run);
+        CHECK(spr_encode_ima4(given_samples + row, 64 * 18, &s.p, &s.i, &s.c, run, 34 * 18) == SPR_DONE);
         s = start;
         CHECK(spr_decode_ima4(run, 34 * 18, &s.p, &s.i, &s.c, whole, 64 * 18) == SPR_DONE);
         CHECK(spr_ima4_index(run, 34 * 18, every, &t.p, &t.i, &t.c, record, len) == SPR_DONE && same(s, t));
@@ -302,7 +302,7 @@ static void seek_cuts(void)
     static int16_t whole[64 * 18];
     const struct state start = {77, 200, 9};
     struct state s = start;
-    encode_run(given_samples, 18, &s, run);
+    CHECK(spr_encode_ima4(given_samples, 64 * 18, &s.p, &s.i, &s.c, run, 34 * 18) == SPR_DONE);
     s = start;
     CHECK(spr_decode_ima4(run, 34 * 18, &s.p, &s.i, &s.c, whole, 64 * 18) == SPR_DONE);
     for (row = 0; row < 18; row++) {

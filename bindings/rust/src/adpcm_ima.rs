@@ -85,5 +85,5 @@ pub fn decode_adpcm_ima(encoded_nibble: u8, state: &mut AdpcmImaState) -> i16 {
 /// ```
 #[inline]
 pub fn encode_adpcm_ima(sample_value: i16, state: &mut AdpcmImaState) -> u8 {
-    ffi::encode_adpcm_ima(sample_value, state.lent(&mut 0), &mut 0)
+    ffi::encode_adpcm_ima(sample_value, state.lent(&mut 0))
 }

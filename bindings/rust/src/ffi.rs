@@ -21,7 +21,6 @@ mod c {
             predictor: *mut i16,
             step_index: *mut u8,
             clipped: *mut u32,
-            miss: *mut i32,
         ) -> u8;
         pub fn spr_decode_ima4(
             bytes: *const u8,
@@ -40,7 +39,6 @@ mod c {
             clipped: *mut u32,
             bytes: *mut u8,
             bytes_len: usize,
-            miss: *mut u32,
         ) -> u8;
         pub fn spr_ima4_index(
             bytes: *const u8,
@@ -96,7 +94,6 @@ mod c {
             clipped: *mut u32,
             block: *mut u8,
             block_len: usize,
-            miss: *mut u32,
         ) -> u8;
         pub fn spr_repack_ms(
             channels: u8,
@@ -156,8 +153,8 @@ pub fn encode_alaw(linear: i16) -> u8 {
 /// A state that is lent for a call: the predictor, the step index and the count of clipped steps.
 pub type Lent<'a> = (&'a mut i16, &'a mut u8, &'a mut u32);
 
-// SAFETY of IMA ADPCM: the state is three numbers of the caller's, and the miss is one more, borrowed for the
-// call by nobody else; the proved functions read and write these, and ask nothing of what they are.
+// SAFETY of IMA ADPCM: the state is three numbers of the caller's, borrowed for the call by nobody else;
+// the proved functions read and write these, and ask nothing of what they are.
 
 #[inline(always)]
 pub fn decode_adpcm_ima(nibble: u8, (predictor, step_index, clipped): Lent) -> i16 {
@@ -165,8 +162,8 @@ pub fn decode_adpcm_ima(nibble: u8, (predictor, step_index, clipped): Lent) -> i
 }
 
 #[inline(always)]
-pub fn encode_adpcm_ima(sample: i16, (predictor, step_index, clipped): Lent, miss: &mut i32) -> u8 {
-    unsafe { c::spr_encode_adpcm_ima(sample, predictor, step_index, clipped, miss) }
+pub fn encode_adpcm_ima(sample: i16, (predictor, step_index, clipped): Lent) -> u8 {
+    unsafe { c::spr_encode_adpcm_ima(sample, predictor, step_index, clipped) }
 }
 
 // SAFETY of ima4: each buffer goes with its length, the proved functions keep within it, and nobody else
@@ -198,13 +195,12 @@ pub fn encode_ima4(
     samples: &[i16],
     (predictor, step_index, clipped): Lent,
     bytes: &mut [u8],
-    miss: &mut u32,
 ) -> u8 {
     let (len, bytes_len) = (samples.len(), bytes.len());
     let (samples, bytes) = (samples.as_ptr(), bytes.as_mut_ptr());
     unsafe {
         c::spr_encode_ima4(
-            samples, len, predictor, step_index, clipped, bytes, bytes_len, miss,
+            samples, len, predictor, step_index, clipped, bytes, bytes_len,
         )
     }
 }
@@ -293,7 +289,6 @@ pub fn encode_ms(
     samples: &[i16],
     (predictors, step_indices, clipped): LentEight,
     block: &mut [u8],
-    miss: &mut u32,
 ) -> u8 {
     let (len, block_len) = (samples.len(), block.len());
     let (samples, block) = (samples.as_ptr(), block.as_mut_ptr());
@@ -301,7 +296,7 @@ pub fn encode_ms(
     let clipped = clipped.as_mut_ptr();
     unsafe {
         c::spr_encode_ms(
-            channels, samples, len, predictors, indices, clipped, block, block_len, miss,
+            channels, samples, len, predictors, indices, clipped, block, block_len,
         )
     }
 }

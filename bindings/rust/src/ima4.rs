@@ -145,6 +145,5 @@ pub fn encode_adpcm_ima_ima4_run(
     state: &mut AdpcmImaState,
     out_buf: &mut [u8],
 ) -> Result<(), Refusal> {
-    let number = ffi::encode_ima4(samples, state.lent(&mut 0), out_buf, &mut 0);
-    answer(number)
+    answer(ffi::encode_ima4(samples, state.lent(&mut 0), out_buf))
 }

@@ -41,9 +41,8 @@
 //! here refuse. The constants are those that the C header has as macros.
 //!
 //! The calls of [`metered`] also count clipped steps, those whose exact sum is no 16-bit number. Their
-//! [`State`](metered::State) has the count as a third number. Its encoders also tell by how much they miss the
-//! samples. [`AdpcmImaState`] and the signatures at the root stay as that crate has them, so the calls there tell
-//! neither.
+//! [`State`](metered::State) has the count as a third number. [`AdpcmImaState`] stays as that crate has it, so
+//! the calls at the root do not tell the count.
 //!
 //! # What is proved
 //!

@@ -1,4 +1,4 @@
-//! States that count clipped steps, and encoders that tell by how much they miss.
+//! States that count clipped steps, and the calls that carry the count.
 //!
 //! A step moves the predictor by a difference, up or down. If the exact sum is below -32768 or above 32767, the
 //! sample is the end of the scale that is nearer, and the step has clipped. A sum of exactly -32768 or 32767 is
@@ -13,26 +13,13 @@
 //! assert_eq!(state.clipped, 1);
 //! ```
 //!
-//! An encoder's step is the decoder's step with the nibble that was written, so it counts the same. The count
-//! travels with the state: if the second part of a run starts from the state that the first part leaves, it ends
-//! with the count of the whole run. A refused call leaves the count as it was.
-//!
-//! The miss of a sample is the sample minus the new predictor, which is what its nibble decodes to.
-//! [`encode_adpcm_ima`] tells it with its sign. The encoders of blocks tell the largest of their misses without
-//! its sign. A refused call tells none.
-//!
-//! ```
-//! use sprettuhol::metered::{encode_adpcm_ima, State};
-//!
-//! // at step index 0 no nibble adds more than 11
-//! let mut state = State::new();
-//! assert_eq!(encode_adpcm_ima(32767, &mut state).miss, 32767 - 11);
-//! assert_eq!(encode_adpcm_ima(0, &mut state).miss, -1);
-//! ```
-//!
 //! The calls have the names of those at the root and take the same parameters, with a [`State`] in the place of
-//! an [`AdpcmImaState`]. Apart from the count and the miss they do the same: bytes, samples, refusals and the other
-//! two numbers of a state do not depend on these.
+//! an [`AdpcmImaState`]. Apart from the count they do the same: bytes, samples, refusals and the other two numbers
+//! of a state do not depend on it. An encoder's step is the decoder's step with the nibble that was written, so
+//! it counts the same.
+//!
+//! The count travels with the state: if the second part of a run starts from the state that the first part
+//! leaves, it ends with the count of the whole run. A refused call leaves the count as it was.
 
 pub mod lenient;
 
@@ -147,51 +134,19 @@ pub fn decode_adpcm_ima(encoded_nibble: u8, state: &mut State) -> i16 {
     ffi::decode_adpcm_ima(encoded_nibble, state.lent())
 }
 
-/// What the encoder makes of one sample.
-#[derive(Debug, Clone, Copy, PartialEq, Eq)]
-pub struct Encoded {
-    /// The nibble, in the lowest four bits; the others are 0.
-    pub nibble: u8,
-    /// The sample minus the new predictor, -65,535 to 65,535. It must never be stored in a 16-bit number.
-    pub miss: i32,
-}
-
-/// The nibble of a sample, as by [`encode_adpcm_ima`](crate::encode_adpcm_ima), and by how much it misses the
-/// sample.
+/// The nibble of a sample, as by [`encode_adpcm_ima`](crate::encode_adpcm_ima).
 ///
 /// ```
-/// use sprettuhol::metered::{encode_adpcm_ima, Encoded, State};
-///
-/// let mut state = State::new();
-/// assert_eq!(encode_adpcm_ima(32767, &mut state), Encoded { nibble: 7, miss: 32756 });
-/// assert_eq!(state, State { predictor: 11, step_index: 8, clipped: 0 });
-///
-/// let mut state = State::new();
-/// assert_eq!(encode_adpcm_ima(-1, &mut state), Encoded { nibble: 9, miss: 0 });
-/// assert_eq!(state.predictor, -1);
-///
-/// // from one end of the scale to the other, by the smallest step
-/// let mut state = State { predictor: 32767, step_index: 0, clipped: 0 };
-/// assert_eq!(encode_adpcm_ima(-32768, &mut state), Encoded { nibble: 15, miss: -65524 });
-/// let mut state = State { predictor: -32768, step_index: 0, clipped: 0 };
-/// assert_eq!(encode_adpcm_ima(32767, &mut state), Encoded { nibble: 7, miss: 65524 });
+/// use sprettuhol::metered::{encode_adpcm_ima, State};
 ///
 /// // even nibble 0 adds 4,095 at step index 88
 /// let mut state = State { predictor: 32767, step_index: 88, clipped: 0 };
-/// assert_eq!(encode_adpcm_ima(32767, &mut state), Encoded { nibble: 0, miss: 0 });
+/// assert_eq!(encode_adpcm_ima(32767, &mut state), 0);
 /// assert_eq!(state, State { predictor: 32767, step_index: 87, clipped: 1 });
-///
-/// // a level meter of the remaining error, sample by sample
-/// let (mut state, wave) = (State::new(), [0, 100, 200, 300, 200, 100, 0, 0]);
-/// let errors = wave.map(|sample| encode_adpcm_ima(sample, &mut state).miss);
-/// assert_eq!(errors, [0, 89, 159, 196, -4, -12, -3, 11]);
 /// ```
 #[inline]
-pub fn encode_adpcm_ima(sample_value: i16, state: &mut State) -> Encoded {
-    // the library only writes it
-    let mut miss = 0;
-    let nibble = ffi::encode_adpcm_ima(sample_value, state.lent(), &mut miss);
-    Encoded { nibble, miss }
+pub fn encode_adpcm_ima(sample_value: i16, state: &mut State) -> u8 {
+    ffi::encode_adpcm_ima(sample_value, state.lent())
 }
 
 /// Decodes a run of 0 to 1,024 ima4 blocks, as
@@ -235,11 +190,9 @@ pub fn decode_adpcm_ima_ima4_run(
 }
 
 /// Encodes a run of 0 to 1,024 ima4 blocks, as
-/// [`encode_adpcm_ima_ima4_run`](crate::encode_adpcm_ima_ima4_run) does. Answers the largest miss of all samples
-/// without its sign, 0 to 65,535, and 0 if there are no blocks.
+/// [`encode_adpcm_ima_ima4_run`](crate::encode_adpcm_ima_ima4_run) does.
 ///
-/// If a decoder starts from the same state, and its step index is at most 88, it counts the same, and the miss is
-/// the peak that [`loss_report`](crate::loss_report) tells of the samples and of those that it decodes.
+/// The decoder counts the same, if it starts from the same state and its step index is at most 88.
 ///
 /// # Errors
 ///
@@ -248,34 +201,17 @@ pub fn decode_adpcm_ima_ima4_run(
 ///
 /// ```
 /// use sprettuhol::metered::{decode_adpcm_ima_ima4_run, encode_adpcm_ima_ima4_run, State};
-/// use sprettuhol::{loss_report, Refusal};
+/// use sprettuhol::Refusal;
 ///
 /// // from one end of the scale to the other and back, four samples each
 /// let wave: Vec<i16> = (0..128).map(|k| if k / 4 % 2 == 0 { 32767 } else { -32768 }).collect();
 /// let (mut encoder, mut bytes) = (State::new(), [0; 68]);
-/// let miss = encode_adpcm_ima_ima4_run(&wave, &mut encoder, &mut bytes)?;
-/// assert_eq!((encoder.clipped, miss), (57, 34002));
+/// encode_adpcm_ima_ima4_run(&wave, &mut encoder, &mut bytes)?;
+/// assert_eq!(encoder.clipped, 57);
 ///
 /// let (mut decoder, mut samples) = (State::new(), [0; 128]);
 /// decode_adpcm_ima_ima4_run(&bytes, &mut decoder, &mut samples)?;
 /// assert_eq!(decoder, encoder);
-/// assert_eq!(u32::from(loss_report(&wave, &samples)?.peak), miss);
-///
-/// // a level meter, block by block, of a wave that is ten times as loud in the second block and the third
-/// let wave: Vec<i16> = (0..256).map(|k| [50, 500, 500, 50][k / 64] * [0, 1, 2, 1][k / 4 % 4]).collect();
-/// let mut state = State::new();
-/// let meter = wave.chunks(64).map(|block| encode_adpcm_ima_ima4_run(block, &mut state, &mut [0; 34]));
-/// let meter: Vec<u32> = meter.collect::<Result<_, _>>()?;
-/// assert_eq!(meter, [39, 413, 43, 39]);
-///
-/// // the largest of them is that of the whole run; and no blocks have no miss
-/// let miss = encode_adpcm_ima_ima4_run(&wave, &mut State::new(), &mut [0; 136])?;
-/// assert_eq!(miss, 413);
-/// assert_eq!(encode_adpcm_ima_ima4_run(&[], &mut state, &mut []), Ok(0));
-///
-/// // a sample too few
-/// let refused = encode_adpcm_ima_ima4_run(&wave[..63], &mut state, &mut [0; 34]);
-/// assert_eq!(refused, Err(Refusal::Blocks));
 /// # Ok::<(), Refusal>(())
 /// ```
 #[inline]
@@ -283,11 +219,8 @@ pub fn encode_adpcm_ima_ima4_run(
     samples: &[i16],
     state: &mut State,
     out_buf: &mut [u8],
-) -> Result<u32, Refusal> {
-    let mut miss = 0;
-    let number = ffi::encode_ima4(samples, state.lent(), out_buf, &mut miss);
-    answer(number)?;
-    Ok(miss)
+) -> Result<(), Refusal> {
+    answer(ffi::encode_ima4(samples, state.lent(), out_buf))
 }
 
 /// Indexes a run of 0 to 1,024 ima4 blocks, as [`index_adpcm_ima_ima4`](crate::index_adpcm_ima_ima4) does.
@@ -395,14 +328,10 @@ pub fn decode_adpcm_ima_ms_channels(
     counts(|clipped| ffi::decode_ms(channels, buf, out_samples, clipped))
 }
 
-/// Encodes samples to an MS block, as [`encode_adpcm_ima_ms`](crate::encode_adpcm_ima_ms) does. Answers the largest
-/// miss of all channels without its sign, 0 to 65,535.
+/// Encodes samples to an MS block, as [`encode_adpcm_ima_ms`](crate::encode_adpcm_ima_ms) does.
 ///
 /// The header takes the place of the predictor and keeps the count. So the count of a channel is that of its
 /// state, and one for each of its steps in this block that clips.
-///
-/// The first sample of a channel is in its header as it is, so it is not missed. The miss is the peak that
-/// [`loss_report`](crate::loss_report) tells of the samples and of those that the block decodes to.
 ///
 /// # Errors
 ///
@@ -411,41 +340,23 @@ pub fn decode_adpcm_ima_ms_channels(
 ///
 /// ```
 /// use sprettuhol::metered::{decode_adpcm_ima_ms_channels, encode_adpcm_ima_ms, State};
-/// use sprettuhol::{loss_report, Error};
 ///
 /// // both channels at the upper end of the scale: there even nibble 0 clips, unless the step is below 8
 /// let mut states = [State { step_index: 88, clipped: 5, ..State::new() }, State::new()];
 /// let mut block = [0; 16];
-/// let miss = encode_adpcm_ima_ms(&[32767; 18], &mut states, &mut block)?;
-/// assert_eq!((states.map(|state| state.clipped), miss), ([5 + 8, 0], 0));
+/// encode_adpcm_ima_ms(&[32767; 18], &mut states, &mut block)?;
+/// assert_eq!(states.map(|state| state.clipped), [5 + 8, 0]);
 ///
 /// // the decoder counts the same, from 0
 /// let clipped = decode_adpcm_ima_ms_channels(2, &block, &mut [0; 18])?;
 /// assert_eq!(clipped[..2], [8, 0]);
-///
-/// // a click from the first sample of the right channel to its second: its step index is 0, so it moves by 11
-/// let mut samples = [0; 18];
-/// (samples[1], samples[3]) = (32767, -32768);
-/// let miss = encode_adpcm_ima_ms(&samples, &mut [State::new(), State::new()], &mut block)?;
-/// assert_eq!(miss, 65535 - 11);
-/// let mut decoded = [0; 18];
-/// decode_adpcm_ima_ms_channels(2, &block, &mut decoded)?;
-/// assert_eq!(u32::from(loss_report(&samples, &decoded)?.peak), miss);
-///
-/// // headers alone miss nothing, whatever the states are
-/// let mut states = [State::new(), State::new()];
-/// assert_eq!(encode_adpcm_ima_ms(&[32767, -32768], &mut states, &mut block[..8])?, 0);
-///
-/// // a byte too few
-/// let refused = encode_adpcm_ima_ms(&samples, &mut states, &mut block[..15]);
-/// assert!(matches!(refused, Err(Error::InvalidBufferSize)));
-/// # Ok::<(), Error>(())
+/// # Ok::<(), sprettuhol::Error>(())
 /// ```
 #[inline]
 pub fn encode_adpcm_ima_ms(
     samples: &[i16],
     states: &mut [State],
     out_buf: &mut [u8],
-) -> Result<u32, Error> {
+) -> Result<(), Error> {
     Ok(encode(samples, states, out_buf)?)
 }

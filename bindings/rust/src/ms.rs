@@ -221,17 +221,16 @@ pub fn encode_adpcm_ima_ms(
     states: &mut [AdpcmImaState],
     out_buf: &mut [u8],
 ) -> Result<(), Error> {
-    encode(samples, states, out_buf)?;
-    Ok(())
+    Ok(encode(samples, states, out_buf)?)
 }
 
-/// The same from states of either kind, with a count or without. Answers the largest miss.
+/// The same from states of either kind, with a count or without.
 #[inline]
 pub(crate) fn encode<S: Clone + From<State>>(
     samples: &[i16],
     states: &mut [S],
     out_buf: &mut [u8],
-) -> Result<u32, Refusal>
+) -> Result<(), Refusal>
 where
     State: From<S>,
 {
@@ -247,9 +246,7 @@ where
         (*predictor, *step_index, *count) = (state.predictor, state.step_index, state.clipped);
     }
     let lent = (&mut predictors, &mut step_indices, &mut clipped);
-    let mut miss = 0;
-    let number = ffi::encode_ms(channels, samples, lent, out_buf, &mut miss);
-    answer(number)?;
+    answer(ffi::encode_ms(channels, samples, lent, out_buf))?;
     let next = predictors.into_iter().zip(step_indices).zip(clipped);
     for (state, ((predictor, step_index), clipped)) in states.iter_mut().zip(next) {
         let next = State {
@@ -259,7 +256,7 @@ where
         };
         *state = next.into();
     }
-    Ok(miss)
+    Ok(())
 }
 
 /// The counts that a decoder tells, if it is not refused.

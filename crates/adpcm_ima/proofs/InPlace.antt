@@ -1,6 +1,5 @@
--- A thin function that is lent a state: it loads it, hands it by value to a step, stores the next state in its place and returns what stands beside it.
--- The borrow checker covers no reference to a struct, so such a function's MIR is walked by hand: here, once, for any state and step, any number that is
--- taken, and any number or struct of plain data that is given.
+-- A thin function that is lent a state: it loads it, hands it by value to a step, stores the next state in its place and returns the number beside it.
+-- The borrow checker covers no reference to a struct, so such a function's MIR is walked by hand: here, once, for any state, step and two numbers.
 -- A function's own proof names its parts (`Thin`) and shows that what the step ensures is what the function ensures (`same`). Assumes nothing.
 use mathlib.Core.Path.{◌≡◌, refl, ap}
 use Prim.Native.Nat.{ℕ}
@@ -35,7 +34,7 @@ use denote.Signature.{plain, mut_ref_to}
 use denote.Steps.{opens, closes, owned, peeks, nothing, only}
 use denote.Struct.Declared.{Declared, row, shape, fields, field}
 use denote.Struct.Field.{Field}
-use denote.Struct.Struct.{layout, Plains, Struct}
+use denote.Struct.Struct.{layout, Plains}
 use denote.Struct.Steps.{spelt}
 use denote.Struct.Laws as LL
 use denote.Triple.Statement.{Contract, Triple}
@@ -62,80 +61,29 @@ pub record Number : Type 2 where
 abbrev row_of : Number → RattleType
 row_of N = plain_type N.X N.coded (N.ty ∷ []) N.own
 
+abbrev field_of : Number → Field
+field_of N = record { row = row_of N; Value = N.X; into = λ x. x; into_one = λ x y e. e }
+
 abbrev pub unsigned : Width → Number
 unsigned w = record { X = ℕ; coded = coded_ℕ; ty = ty_int w; own = (UInt w).own_val; val = vint w; tells = uint_Tells w; pure = λ n vs. (tt, tt); lawful = λ 𝓛. uint_Lawful 𝓛 w }
 
 abbrev pub signed : Width → Number
 signed w = record { X = ℤ; coded = coded_ℤ; ty = ty_int w; own = (SInt w).own_val; val = λ z. vint w (of_z w z); tells = sint_Tells w; pure = λ z vs. (tt, tt); lawful = λ 𝓛. sint_Lawful 𝓛 w }
 
--- a type of which one machine value is one
-abbrev single : Ty → RattleType → RattleType
-single τ T = record { Denot = T.Denot; mir = τ ∷ []; written = T.written; reaches = T.reaches; own_val = T.own; exit = T.exit; coded = T.coded }
-
--- what is given: its type, the type of the answer's field that holds it, and how the one is read as the other
-pub record Gift : Type 2 where
-  pub type : RattleType
-  pub ty : Ty
-  pub inner : RattleType
-  pub Value : Type 0
-  pub valued : Value → inner.Denot
-  pub valued_one : (x y : Value) → valued x ≡ valued y → x ≡ y
-  pub into : type.Denot → inner.Denot
-  pub laws : LL.FLaws (record { row = single ty inner; Value = Value; into = valued; into_one = valued_one })
-  pub same : (x : type.Denot) (vs : List Val) → Is (single ty inner) (into x) vs → Is (single ty type) x vs
-  pub makes : {M : Type 1} {𝓤 : Ura M} (𝓛 : Logic 𝓤) → Makes 𝓛 (single ty type) (Is (single ty type))
-  pub lawful : {M : Type 1} {𝓤 : Ura M} (𝓛 : Logic 𝓤) → Lawful 𝓛 (single ty type)
-
-abbrev part_of : Gift → Field
-part_of G = record { row = single G.ty G.inner; Value = G.Value; into = G.valued; into_one = G.valued_one }
-
-pub made : (N : Number) {M : Type 1} {𝓤 : Ura M} (𝓛 : Logic 𝓤) → Makes 𝓛 (row_of N) (Is (row_of N))
-made N 𝓛 = plain_Makes 𝓛 N.X N.coded (N.ty ∷ []) N.own N.pure
-
-abbrev pub number : Number → Gift
-number N = record {
-  type = row_of N;
-  ty = N.ty;
-  inner = row_of N;
-  Value = N.X;
-  valued = λ x. x;
-  valued_one = λ x y e. e;
-  into = λ x. x;
-  laws = record { val = N.val; tells = N.tells; low = N.val; low-is = N.tells; lawful = N.lawful };
-  same = λ x vs is. is;
-  makes = made N;
-  lawful = N.lawful;
-}
-
-abbrev pub struct : (T : Declared) (L : LL.Laws T) → LL.Lowered T → Plains (fields T) → Gift
-struct T L lowers pure = record {
-  type = row T;
-  ty = layout (shape T);
-  inner = Struct (shape T);
-  Value = T.D;
-  valued = T.to;
-  valued_one = T.to_one;
-  into = T.to;
-  laws = LL.field_laws T L lowers;
-  same = λ x vs is. is;
-  makes = λ 𝓛. LL.makes T pure 𝓛;
-  lawful = λ 𝓛. LL.lawful T L 𝓛;
-}
-
--- the state, a struct of plain data; the number taken; what is given; and the step, whose answer is a struct of what is given and the next state
+-- the state, a struct of plain data; the number taken and the number given; and the step, whose answer is a struct of the number given and the next state
 pub record Thin : Type 2 where
   pub state : Declared
   pub laws : LL.Laws state
   pub lowers : LL.Lowered state
   pub pure : Plains (fields state)
   pub taken : Number
-  pub given : Gift
+  pub given : Number
   pub step : Name
   pub answer : Sym
   pub Answer : Type 0
-  pub gives : Answer → given.type.Denot
+  pub number : Answer → given.X
   pub next : Answer → state.D
-  pub one : (x y : Answer) → ◌≡◌ {A = given.inner.Denot × (Denots (fields state) × Unit {0})} (given.into (gives x), (state.to (next x), tt)) (given.into (gives y), (state.to (next y), tt)) → x ≡ y
+  pub one : (x y : Answer) → ◌≡◌ {A = given.X × (Denots (fields state) × Unit {0})} (number x, (state.to (next x), tt)) (number y, (state.to (next y), tt)) → x ≡ y
 
 module _ (f : Thin) where
   abbrev S : Type 0
@@ -151,23 +99,20 @@ module _ (f : Thin) where
   In = row_of f.taken
 
   abbrev Out : RattleType
-  Out = single f.given.ty f.given.type
+  Out = row_of f.given
 
   abbrev D : Declared
-  D = record { name = f.answer; args = []; parts = part_of f.given ∷ field f.state ∷ []; D = f.Answer; to = λ r. (f.given.into (f.gives r), (f.state.to (f.next r), tt)); to_one = f.one }
+  D = record { name = f.answer; args = []; parts = field_of f.given ∷ field f.state ∷ []; D = f.Answer; to = λ r. (f.number r, (f.state.to (f.next r), tt)); to_one = f.one }
 
   abbrev D-laws : LL.Laws D
-  D-laws = (f.given.laws, (LL.field_laws f.state f.laws f.lowers, tt))
+  D-laws = (record { val = f.given.val; tells = f.given.tells; low = f.given.val; low-is = f.given.tells; lawful = f.given.lawful }, (LL.field_laws f.state f.laws f.lowers, tt))
 
-  -- the machine values of the number taken, of what is given and of a state
+  -- the machine values of the number taken, of the number given and of a state
   abbrev in-vals : N → List Val
   in-vals n = f.taken.val n ∷ []
 
-  abbrev out-val : f.Answer → Val
-  out-val r = f.given.laws.val (f.given.into (f.gives r))
-
   abbrev out-vals : f.Answer → List Val
-  out-vals r = out-val r ∷ []
+  out-vals r = f.given.val (f.number r) ∷ []
 
   abbrev vals : S → List Val
   vals = LL.vals f.state f.laws
@@ -197,7 +142,7 @@ module _ (f : Thin) where
   stayed = (stay_none (λ _. In) yes, (stay_ref (0 ∷ []) tt (plain (λ _. R)), tt))
 
   -- what the step ensures of its answer, and what the function ensures of the state at exit and of the number given
-  module _ {M : Type 1} {𝓤 : Ura M} (𝓛 : Logic 𝓤) (Done : S → N → f.Answer → SProp 𝓤) (Left : Lfts 1 → N → MutBor S → MutBor S → f.given.type.Denot → SProp 𝓤) where
+  module _ {M : Type 1} {𝓤 : Ura M} (𝓛 : Logic 𝓤) (Done : S → N → f.Answer → SProp 𝓤) (Left : Lfts 1 → N → MutBor S → MutBor S → f.given.X → SProp 𝓤) where
     open 𝓛 use {H}
 
     abbrev steps : Clauses 𝓤 by_value
@@ -211,13 +156,16 @@ module _ (f : Thin) where
 
     -- of the state that is left and of the number that is given, they ensure the same
     abbrev Same : Type 1
-    Same = (κs : Lfts 1) (s : MutBor S) (n : N) (r : f.Answer) → ent 𝓤 (Done s.now n r) (Left κs n s (at_last s (f.next r)) (f.gives r))
+    Same = (κs : Lfts 1) (s : MutBor S) (n : N) (r : f.Answer) → ent 𝓤 (Done s.now n r) (Left κs n s (at_last s (f.next r)) (f.number r))
 
     -- ---- the walk
     module _ (same : Same) where
+      made : (n : Number) → Makes 𝓛 (row_of n) (Is (row_of n))
+      made n = plain_Makes 𝓛 n.X n.coded (n.ty ∷ []) n.own n.pure
+
       -- what whoever holds an answer knows of its two fields
-      gave : (r : f.Answer) (vs : List Val) → Is (row D) r vs → Is Out (f.gives r) (out-vals r)
-      gave r vs is = f.given.same (f.gives r) (out-vals r) (LL.owed D D-laws r vs is).0
+      numbered : (r : f.Answer) (vs : List Val) → Is (row D) r vs → Is Out (f.number r) (out-vals r)
+      numbered r vs is = (LL.owed D D-laws r vs is).0
 
       moved : (r : f.Answer) (vs : List Val) → Is (row D) r vs → Is R (f.next r) (vals (f.next r))
       moved r vs is = (LL.owed D D-laws r vs is).1.0
@@ -241,7 +189,7 @@ module _ (f : Thin) where
         -- plain data owns only facts, so what the step asks is had for nothing
         asked : Is R h (vals h) → ent 𝓤 (emp 𝓤) (Stepped.pre to_step)
         asked was =
-            qed 𝓛 [] ∵ nothing ! $ owned ! In (Is In) (made f.taken 𝓛) n _ took $ fjoin ! $ owned ! R (Is R) (LL.makes f.state f.pure 𝓛) h _ was $ fjoin ! $
+            qed 𝓛 [] ∵ nothing ! $ owned ! In (Is In) (made f.taken) n _ took $ fjoin ! $ owned ! R (Is R) (LL.makes f.state f.pure 𝓛) h _ was $ fjoin ! $
             nothing ! $ join ! $ frame ! $ done !
 
         -- the step has no `&mut`, so what is said of last values is dropped
@@ -251,13 +199,13 @@ module _ (f : Thin) where
         abbrev at-end : f.Answer → List (Item 𝓤)
         at-end r = ‵ (fobs γ (R.coded.code (f.next r))) ∷ ‵ (fbor κ (Body (mem R) b o γ)) ∷ ‵ (flft κ q) ∷ raw (Done h n r) ∷ []
 
-        exits : (r : f.Answer) → Is Out (f.gives r) (out-vals r) → ent 𝓤 (⋆ 𝓛 (at-end r)) (Post (out-val r))
+        exits : (r : f.Answer) → Is Out (f.number r) (out-vals r) → ent 𝓤 (⋆ 𝓛 (at-end r)) (Post (f.given.val (f.number r)))
         exits r gave =
             qed 𝓛 (at-end r) ∵
-            suffices ! _ (ends_at 𝓛 lent stayed lends y (out-val r) (f.gives r) (tt, (f.next r, tt)) (tt, (tt, tt))) $
-            feq_i ! (List Val) (vptr b o ∷ []) (vptr b o ∷ []) refl $ fjoin3 ! $ nothing ! $ move ! (1 ∷ 0 ∷ []) $ fjoin ! $ owned ! In (Is In) (made f.taken 𝓛) n _ took $ fjoin ! $
-            owned ! Out (Is Out) (f.given.makes 𝓛) (f.gives r) _ gave $ move ! (1 ∷ 0 ∷ []) $ join ! $ nothing ! $ move ! (2 ∷ 0 ∷ []) $ join ! $ join ! $ frame ! $
-            use1 𝓛 (raw (Left (κ, tt) n x (at_last x (f.next r)) (f.gives r))) (same (κ, tt) x n r) $ done !
+            suffices ! _ (ends_at 𝓛 lent stayed lends y (f.given.val (f.number r)) (f.number r) (tt, (f.next r, tt)) (tt, (tt, tt))) $
+            feq_i ! (List Val) (vptr b o ∷ []) (vptr b o ∷ []) refl $ fjoin3 ! $ nothing ! $ move ! (1 ∷ 0 ∷ []) $ fjoin ! $ owned ! In (Is In) (made f.taken) n _ took $ fjoin ! $
+            owned ! Out (Is Out) (made f.given) (f.number r) _ gave $ move ! (1 ∷ 0 ∷ []) $ join ! $ nothing ! $ move ! (2 ∷ 0 ∷ []) $ join ! $ join ! $ frame ! $
+            use1 𝓛 (raw (Left (κ, tt) n x (at_last x (f.next r)) (f.number r))) (same (κ, tt) x n r) $ done !
 
         module _ (C : Calls 𝓤 H) (Λ : Loops 𝓤 H) (fm : FmC 𝓤 H 𝓛.laws C) (known : Triple 𝓤 (C f.step) Stepped) where
           walk : ent 𝓤 (on_entry 𝓛 lent.signature (κ, tt) (q, tt) (n, (x, tt)) at) (WpFn 𝓤 H C Λ function (f.taken.val n ∷ vptr b o ∷ []) Post)
@@ -280,12 +228,12 @@ module _ (f : Thin) where
               rewrite ! 5 (λ (u : Val). ‵ (fat full_share (layout (shape D)) l₄ 0 u)) (ap only (LL.tells D D-laws r (v ∷ []) is)) refl $
               assigns ! (of_opd ! (load ! (from ! (fld ! refl (stop !))) (look_in ! 5 (sub ! 1 refl (whole !))))) (from ! (hop ! (look ! 9 refl) (stop !)))
               (store_raw ! 1 refl ((LL.lawful f.state f.laws 𝓛).typed (f.next r) _ (moved r _ is)).0) $
-              assigns ! (of_opd ! (load ! (from ! (fld ! refl (stop !))) (look_in ! 5 (sub ! 0 refl (whole !))))) (from ! (stop !)) (init ! 13 refl ((f.given.lawful 𝓛).typed (f.gives r) _ (gave r _ is)).0) $
+              assigns ! (of_opd ! (load ! (from ! (fld ! refl (stop !))) (look_in ! 5 (sub ! 0 refl (whole !))))) (from ! (stop !)) (init ! 13 refl ((f.given.lawful 𝓛).typed (f.number r) _ (numbered r _ is)).0) $
               owned ! R (Is R) (LL.makes f.state f.pure 𝓛) (f.next r) _ (moved r _ is) $ move ! (2 ∷ 0 ∷ 3 ∷ 4 ∷ 5 ∷ []) $ closes ! tt R (f.next r) (vals (f.next r)) b o $
               -- [obs; the borrow; the token; what the step ensures; _4; …; _3; …; _2; …; _1; …; _0; …]
               returns ! (look ! 12 refl) $ forget ! 4 refl $ forget ! 6 refl $ forget ! 8 refl $ forget ! 10 refl $ forget ! 12 refl $
               move ! (12 ∷ 13 ∷ []) $ free1 ! $ move ! (10 ∷ 11 ∷ []) $ free1 ! $ move ! (8 ∷ 9 ∷ []) $ free1 ! $ move ! (6 ∷ 7 ∷ []) $ free1 ! $ move ! (4 ∷ 5 ∷ []) $ free1 ! $ free0 ! $
-              keep ! (0 ∷ 1 ∷ 2 ∷ 3 ∷ []) $ by ! (exits r (gave r _ is))))))))))))
+              keep ! (0 ∷ 1 ∷ 2 ∷ 3 ∷ []) $ by ! (exits r (numbered r _ is))))))))))))
 
       walks : (𝓣 : Tables 𝓤 H) → Triple 𝓤 (𝓣.C f.step) Stepped → Meets 𝓛 lent.signature (WpFn 𝓤 H 𝓣.C 𝓣.Λ function) (closing 𝓛 lent lends)
       walks 𝓣 known =
@@ -295,7 +243,7 @@ module _ (f : Thin) where
           (walk κs.0 qs.0 a.1.0.ref_ptr.0 a.1.0.ref_ptr.1 a.1.0.ghost_name a.1.0.now a.0 are.0 𝓣.C 𝓣.Λ (fm_of 𝓤 H 𝓛.laws 𝓣) known)))
 
   -- ---- the function that k means meets its contract, since the step meets its own
-  module _ {M : Type 1} {𝓤 : Ura M} (𝓛 : Logic 𝓤) (𝓜 : Model 𝓤 𝓛.H) (𝓡 : Running 𝓤 𝓛.H 𝓜) (env : Env) (k : Name) (Done : S → N → f.Answer → SProp 𝓤) (Left : Lfts 1 → N → MutBor S → MutBor S → f.given.type.Denot → SProp 𝓤) where
+  module _ {M : Type 1} {𝓤 : Ura M} (𝓛 : Logic 𝓤) (𝓜 : Model 𝓤 𝓛.H) (𝓡 : Running 𝓤 𝓛.H 𝓜) (env : Env) (k : Name) (Done : S → N → f.Answer → SProp 𝓤) (Left : Lfts 1 → N → MutBor S → MutBor S → f.given.X → SProp 𝓤) where
     open 𝓛 use {H}
 
     pub in_place : Closed 𝓤 H (tables 𝓤 H 𝓜 𝓡 env).C (tables 𝓤 H 𝓜 𝓡 env).Λ k function

@@ -2,11 +2,10 @@
 // Both are exported as they stand, so that Rust can lend them a state too.
 ghost use Rattle.std.specs.Prelude.{◌≡◌};
 ghost use Rattle.ima_nibble.specs.Step.{sixteen, stepped, emitted};
-ghost use Rattle.ima_nibble.specs.Miss.{missed};
 ghost use Rattle.ima_nibble.specs.Table.{ima_steps};
 ghost use Rattle.adpcm_ima.specs.View.{state_of};
 
-use crate::{AdpcmImaState, Emitted};
+use crate::AdpcmImaState;
 
 #[unsafe(no_mangle)]
 pub extern "C" fn decode_adpcm_ima(encoded_nibble: u8, state: &mut AdpcmImaState) -> i16
@@ -19,11 +18,11 @@ pub extern "C" fn decode_adpcm_ima(encoded_nibble: u8, state: &mut AdpcmImaState
 }
 
 #[unsafe(no_mangle)]
-pub extern "C" fn encode_adpcm_ima(sample_value: i16, state: &mut AdpcmImaState) -> Emitted
-    ensures { (result.nibble ≡ emitted sixteen ima_steps (state_of state.old) sample_value) × (state_of state.new ≡ stepped sixteen ima_steps (state_of state.old) result.nibble) × (result.miss ≡ missed sixteen ima_steps (state_of state.old) sample_value) }
+pub extern "C" fn encode_adpcm_ima(sample_value: i16, state: &mut AdpcmImaState) -> u8
+    ensures { (result ≡ emitted sixteen ima_steps (state_of state.old) sample_value) × (state_of state.new ≡ stepped sixteen ima_steps (state_of state.old) result) }
 {
     let before = *state;
     let encoded = before.encode(sample_value);
     *state = encoded.state;
-    encoded.emitted
+    encoded.nibble
 }

@@ -3,7 +3,6 @@ mod lent;
 
 ghost use Rattle.std.specs.Prelude.{◌≡◌, ◌<◌};
 ghost use Rattle.ima_nibble.specs.Step.{zero_state, reloaded, uncounted, sixteen, stepped, emitted, narrow};
-ghost use Rattle.ima_nibble.specs.Miss.{missed};
 ghost use Rattle.ima_nibble.specs.Table.{ima_steps};
 ghost use Rattle.ima_step.specs.View.{wide_of};
 ghost use Rattle.adpcm_ima.specs.View.{state_of, same_state};
@@ -34,17 +33,9 @@ pub struct Decoded {
     pub state: AdpcmImaState,
 }
 
-// The nibble of a sample, and what it misses the sample by. In the layout of C, for a call of `lent` hands it to Rust.
-#[repr(C)]
-#[derive(Drop)]
-pub struct Emitted {
-    pub nibble: u8,
-    pub miss: i32,
-}
-
 #[derive(Drop)]
 pub struct Encoded {
-    pub emitted: Emitted,
+    pub nibble: u8,
     pub state: AdpcmImaState,
 }
 
@@ -129,16 +120,12 @@ impl AdpcmImaState {
     }
 
     pub fn encode(self, sample: i16) -> Encoded
-        ensures { (result.emitted.nibble ≡ emitted sixteen ima_steps (state_of self) sample) × (state_of result.state ≡ stepped sixteen ima_steps (state_of self) result.emitted.nibble) × (result.emitted.miss ≡ missed sixteen ima_steps (state_of self) sample) }
+        ensures { (result.nibble ≡ emitted sixteen ima_steps (state_of self) sample) × (state_of result.state ≡ stepped sixteen ima_steps (state_of self) result.nibble) }
     {
         let steps = IMA_STEP_TABLE;
         let coded = self.widen().encode_step(&steps, sample);
-        let miss = coded.next.miss(sample);
         Encoded {
-            emitted: Emitted {
-                nibble: coded.nibble as u8,
-                miss,
-            },
+            nibble: coded.nibble as u8,
             state: AdpcmImaState::narrow(coded.next),
         }
     }

@@ -2,7 +2,6 @@ pub mod Bare
 pub mod Cut
 pub mod Kept
 pub mod Lengths
-pub mod Misses
 pub mod Ran
 pub mod Round
 pub mod Theorems

@@ -14,16 +14,16 @@ use Rattle.ima4_block.specs.Call.{finished}
 use Rattle.ima4_block.specs.Run.{run}
 use Rattle.ima4_block.proofs.Cut.{single, continued}
 
--- the part for block i of a list that is n of them
-pub part_length : {Z : Type 0} (wide n i : ℕ) (zs : List Z) → length zs ≡ wide * n → i < n → length (take (wide * i + wide - wide * i) (drop (wide * i) zs)) ≡ wide
-part_length wide n i zs e h =
-    let l = mul-le-mul_left {m = i + 1} {n = n} wide (omega arith) in
-    let k : wide * i + wide - wide * i ≡ wide = omega arith in
-    rw k (length-take-le wide (drop (wide * i) zs) (omega (arith, length-drop (wide * i) zs, l)))
-
 -- by a call that is `block` where it takes its lengths: `size` of what is read, and `width` of what is written
 module _ {X Y : Type 0} (block : State → List X → Done Y) (size width : ℕ) (call : State → List X → List Y → Outcome State (List Y))
     (takes : (st : State) (xs : List X) (out : List Y) → length xs ≡ size → length out ≡ width → call st xs out ≡ finished (block st xs)) where
+  -- the part for block i of a list that is n of them
+  part_length : {Z : Type 0} (wide n i : ℕ) (zs : List Z) → length zs ≡ wide * n → i < n → length (take (wide * i + wide - wide * i) (drop (wide * i) zs)) ≡ wide
+  part_length wide n i zs e h =
+      let l = mul-le-mul_left {m = i + 1} {n = n} wide (omega arith) in
+      let k : wide * i + wide - wide * i ≡ wide = omega arith in
+      rw k (length-take-le wide (drop (wide * i) zs) (omega (arith, length-drop (wide * i) zs, l)))
+
   module _ (st₀ : State) (xs : List X) where
     -- i blocks are read and written, and the state is st
     abbrev pub Ran : State → ℕ → List Y → Type 0

@@ -33,7 +33,7 @@ module _ (n : ℕ) (small : n ≤ 1024) where
   unfolding decode_ima4_run
   decode-fits st bytes out e h = fits (length bytes) (length out) e h (λ k. run decoded_ima4_block 34 k st bytes) st out
 
-  pub encode-fits : (st : State) (xs : List ℤ) (out : List ℕ) → length xs ≡ 64 * n → length out ≡ 34 * n
+  encode-fits : (st : State) (xs : List ℤ) (out : List ℕ) → length xs ≡ 64 * n → length out ≡ 34 * n
       → encode_ima4_run st xs out ≡ finished (run encoded_ima4_block 64 n st xs)
   unfolding encode_ima4_run
   encode-fits st xs out e h = fits (length out) (length xs) h e (λ k. run encoded_ima4_block 64 k st xs) st out

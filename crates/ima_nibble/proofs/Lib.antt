@@ -4,7 +4,6 @@ pub mod Counted
 pub mod FourBits
 pub mod Fused
 pub mod Held
-pub mod Misses
 pub mod Parts
 pub mod Reach
 pub mod Rising

@@ -1,4 +1,3 @@
-pub mod Miss
 pub mod Series
 pub mod Step
 pub mod Table

@@ -2,15 +2,14 @@
 mod nibble;
 mod sums;
 
-ghost use Rattle.std.specs.Prelude.{◌≡◌, ◌/◌, ◌%◌, ◌<◌, min, max, ◌-ℤ◌};
-ghost use Rattle.num.specs.Distance.{distance};
+ghost use Rattle.std.specs.Prelude.{◌≡◌, ◌/◌, ◌%◌, ◌<◌, min};
 ghost use Rattle.ima_nibble.specs.Step.{sixteen, stepped, emitted, indexed};
 ghost use Rattle.ima_step.specs.View.{wide_of};
 
 use halves::{high_nibble, low_nibble};
 use ima_arithmetic::{difference, greedy_take, hold, sign, takes, tally, towards};
 use nibble::{absolute, change, exact_sum, next_index, raise_index, reach_count, step};
-use num::{larger_u16, lesser};
+use num::lesser;
 use sums::hold_both;
 
 // A predictor, an index that needs no widening before it is a place in the table, and the count of clipped steps. Any index is taken: one above 88 is
@@ -96,19 +95,5 @@ impl Wide {
                 clipped: tally(self.clipped, moved.clips),
             },
         }
-    }
-
-    // What the state behind a sample misses it by: the sample less the predictor.
-    pub fn miss(self, sample: i16) -> i32
-        ensures { result ≡ sample -ℤ self.predictor }
-    {
-        difference(self.predictor, sample)
-    }
-
-    // The larger of a miss without its sign and that of one sample more. It has the width of a sample: in a loop that takes fewer instructions.
-    pub fn larger_miss(self, sample: i16, miss: u16) -> u16
-        ensures { result ≡ max miss (distance sample self.predictor) }
-    {
-        larger_u16(miss, num::distance(sample, self.predictor))
     }
 }

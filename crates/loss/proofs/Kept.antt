@@ -10,12 +10,9 @@ use lib.ListN.{length, get_or, take, drop, length-take, length-drop}
 use lib.Seq.{drop-drop}
 use borrow.Author.Tests.{eqb-true, eq-eqb}
 use borrow.Table.Steps.{cases}
-use Rattle.num.specs.Lists.{largest}
-use Rattle.num.proofs.Largest.{largest-append}
-use Rattle.num.specs.Distance.{distance}
-use Rattle.loss.specs.Loss.{distances, count_of, first_from, first_of}
+use Rattle.loss.specs.Loss.{distance, distances, count_of, first_from, first_of, largest}
 use Rattle.loss.specs.Private.{differing, alike_to, rest, Sees}
-use Rattle.loss.proofs.Places.{count-append, first-behind, parted, distances-length, turn, gone}
+use Rattle.loss.proofs.Places.{count-append, largest-append, first-behind, parted, distances-length, turn, gone}
 
 module _ (xs ys : List ℤ) where
   pub record Kept (count most i : ℕ) : Type 0 where

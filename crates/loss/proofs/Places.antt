@@ -1,20 +1,28 @@
--- What the definitions say of two runs: of one place and of those behind it, and of a stretch and of what is behind that. Assumes nothing.
+-- What the definitions say of two samples, and of two runs: of one place and of those behind it, and of a stretch and of what is behind that. Assumes nothing.
 use mathlib.Core.Path.{◌≡◌, refl, sym, ap, ◌∙◌}
 use mathlib.Core.List.{List, [], ◌∷◌, ◌++◌}
 use mathlib.Core.Option.{Option, none, some}
-use Prim.Native.Nat.{ℕ, zero, suc, ◌+◌, ◌≤◌, ◌<◌}
+use Prim.Native.Nat.{ℕ, zero, suc, ◌+◌, ◌≤◌, ◌<◌, max}
 use native.Mathlib.Numerals.{add-one}
 use native.Mathlib.Omega.{arith}
 use lib.Dec.{eqb}
 use lib.IntN.{ℤ, pos}
 use lib.ListN.{length, get_or, take, drop, drop_of_length-le}
 use lib.Seq.{drop-cons}
+use mir.Syntax.{w16}
+use mir.Val.{SFits}
 use borrow.Author.Tests.{le-leb, eq-eqb, ne_eqb}
 use borrow.Table.Steps.{cases}
 use Rattle.num.specs.Outcome.{outcome}
-use Rattle.num.specs.Distance.{distance}
-use Rattle.loss.specs.Loss.{distances, count_of, first_from, first_of, report, report_of, loss_report}
+use Rattle.num.proofs.Signed.{apart-le}
+use Rattle.loss.specs.Loss.{distance, distances, count_of, first_from, first_of, largest, report, report_of, loss_report}
 use Rattle.loss.specs.Private.{rest, Sees}
+
+-- ---- two samples
+
+-- 16 bits without a sign hold their difference
+pub distance-lt : {x y : ℤ} → SFits w16 x → SFits w16 y → distance x y < 65536
+distance-lt {x} {y} f g = omega (arith, apart-le x y, f.sfits, g.sfits)
 
 -- ---- differences, one list behind another
 
@@ -22,6 +30,11 @@ pub count-append : (ds es : List ℕ) → count_of (ds ++ es) ≡ count_of ds + 
 unfolding count_of
 count-append [] es = omega arith
 count-append (d ∷ ds) es = let h = count-append ds es in omega arith
+
+pub largest-append : (ds es : List ℕ) → largest (ds ++ es) ≡ max (largest ds) (largest es)
+unfolding largest
+largest-append [] es = omega arith
+largest-append (d ∷ ds) es = let h = largest-append ds es in omega arith
 
 -- the first is behind those that are none
 pub first-behind : (ds es : List ℕ) (i : ℕ) → count_of ds ≡ 0 → first_from i (ds ++ es) ≡ first_from (i + length ds) es

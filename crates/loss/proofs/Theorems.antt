@@ -11,16 +11,14 @@ use mir.Syntax.{w16}
 use mir.Val.{SFits}
 use borrow.Author.Tests.{eqb-true, leb-true, leb-false}
 use borrow.Table.Steps.{cases}
-use Rattle.num.specs.Distance.{distance}
-use Rattle.num.specs.Lists.{All, largest}
+use Rattle.num.specs.Lists.{All}
 use Rattle.num.specs.Outcome.{Outcome, outcome, Faithful}
 use Rattle.num.proofs.Lists.{all-at}
-use Rattle.num.proofs.Signed.{distance-lt}
 use Rattle.loss.specs.declared.First.{First}
 use Rattle.loss.specs.declared.Loss.{Loss}
 use Rattle.loss.specs.declared.First.TheVariants.{At, Nowhere}
-use Rattle.loss.specs.Loss.{Report, place_of, distances, count_of, first_from, report, report_of, loss_report}
-use Rattle.loss.proofs.Places.{taken}
+use Rattle.loss.specs.Loss.{Report, place_of, distance, distances, count_of, first_from, largest, report, report_of, loss_report}
+use Rattle.loss.proofs.Places.{distance-lt, taken}
 
 -- ---- two samples
 

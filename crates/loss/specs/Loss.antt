@@ -1,13 +1,14 @@
 -- The loss report of two sample runs. Assumes nothing.
-use Rattle.std.specs.Prelude.{cond, ◌&&◌, List, [], ◌∷◌, ℕ, suc, ◌+◌, eqb, leb, ℤ, length}
+use Rattle.std.specs.Prelude.{cond, ◌&&◌, List, [], ◌∷◌, ℕ, suc, ◌+◌, max, eqb, leb, ℤ, nat_abs, ◌-ℤ◌, length}
 use Rattle.std.proofs.Math.Option.{Option, none, some}
-use Rattle.num.specs.Distance.{distance}
-use Rattle.num.specs.Lists.{largest}
 use Rattle.num.specs.Outcome.{Outcome, outcome_by}
 use Rattle.loss.specs.declared.First.{First}
 use Rattle.loss.specs.declared.First.TheVariants.{At, Nowhere}
 
--- The absolute differences of two runs, place by place.
+-- The absolute difference of two samples, and those of two runs, place by place.
+abbrev pub distance : ℤ → ℤ → ℕ
+distance x y = nat_abs (x -ℤ y)
+
 unfoldable pub distances : List ℤ → List ℤ → List ℕ
 distances [] ys = []
 distances (x ∷ xs) [] = []
@@ -26,6 +27,11 @@ first_from i (d ∷ ds) = cond (eqb d 0) (first_from (suc i) ds) (some i)
 abbrev pub first_of : List ℕ → Option ℕ
 first_of ds = first_from 0 ds
 
+-- the largest absolute difference, 0 if none.
+unfoldable pub largest : List ℕ → ℕ
+largest [] = 0
+largest (d ∷ ds) = max d (largest ds)
+
 -- The enum of the code: a place from 0, or none.
 abbrev pub place_of : First → Option ℕ
 place_of (At k) = some k
@@ -40,7 +46,7 @@ pub record Report (Place : Type 0) : Type 0 where
 abbrev pub report : {Place : Type 0} → ℕ → Place → ℕ → Report Place
 report count first peak = record { count = count; first = first; peak = peak }
 
--- The peak is the largest absolute difference, 0 if none. It is the true one, whatever it is.
+-- The peak is the true one: the largest difference, whatever it is.
 abbrev pub report_of : List ℕ → Report (Option ℕ)
 report_of ds = report (count_of ds) (first_of ds) (largest ds)
 

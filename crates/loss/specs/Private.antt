@@ -1,7 +1,6 @@
 -- What only private functions and loops need: what the code keeps while it looks. Assumes nothing.
 use Rattle.std.specs.Prelude.{◌≡◌, cond, List, ℕ, eqb, ℤ, drop}
-use Rattle.num.specs.Lists.{largest}
-use Rattle.loss.specs.Loss.{distances, count_of}
+use Rattle.loss.specs.Loss.{distances, count_of, largest}
 
 -- What a place adds to the count.
 abbrev pub differing : ℕ → ℕ

@@ -1,10 +1,11 @@
 // The loss report of two sample runs.
 ghost use Rattle.std.specs.Prelude.{◌≡◌, ◌<◌, ◌≤◌, length};
 ghost use Rattle.num.specs.Outcome.{outcome};
+ghost use Rattle.loss.specs.Loss as Report;
 ghost use Rattle.loss.specs.Loss.{distances, first_from, first_of, place_of, report, loss_report};
 ghost use Rattle.loss.specs.Private.{differing, alike_to, rest, Sees};
 
-use num::{distance, larger_u16, lesser};
+use num::{larger_u16, lesser};
 
 // The first place that differs, counted from 0.
 #[derive(Drop)]
@@ -98,6 +99,17 @@ fn stretch(before: &[i16], after: &[i16]) -> Seen
         i += 1;
     }
     Seen { count, largest }
+}
+
+// The absolute difference of two samples.
+fn distance(x: i16, y: i16) -> u16
+    ensures { result ≡ Report.distance x y }
+{
+    if x < y {
+        (y as i32 - x as i32) as u16
+    } else {
+        (x as i32 - y as i32) as u16
+    }
 }
 
 // 1, where there is a difference.

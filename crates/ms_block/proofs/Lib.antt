@@ -1,6 +1,5 @@
 pub mod Lengths
 pub mod Midst
-pub mod Misses
 pub mod OwnBytes
 pub mod OwnSamples
 pub mod Readings

@@ -1,5 +1,5 @@
 -- In the midst of a block, the bytes before place `at` being done: which byte is next of each channel, and the state before it.
--- One byte more moves its own channel alone. Over any states, and over whatever else is said of each channel. Assumes nothing.
+-- One byte more moves the state of its own channel alone. Over any states. Assumes nothing.
 use mathlib.Core.Path.{◌≡◌, refl, sym, ap, ap₂, ◌∙◌, subst}
 use mathlib.Core.List.{List}
 use Prim.Native.Nat.{ℕ, suc, ◌+◌, ◌-◌, ◌*◌, ◌/◌, ◌%◌, ◌≤◌, ◌<◌}
@@ -25,13 +25,9 @@ byte c = place 4 c
 abbrev pub Next : ℕ → ℕ → ℕ → ℕ → Type 0
 Next c at e d = (byte c e (d - 1) < at) × (at ≤ byte c e d)
 
--- P of each channel and its next byte
-abbrev pub Each : ℕ → (ℕ → ℕ → Type 0) → ℕ → Type 0
-Each c P at = (e d : ℕ) → e < c → 4 ≤ d → Next c at e d → P e d
-
 -- each channel has the state before its next byte
 abbrev pub States : ℕ → (ℕ → ℕ → State) → ℕ → List State → Type 0
-States c stateAt at sts = Each c (λ e d. state_in sts e ≡ stateAt e d) at
+States c stateAt at sts = (e d : ℕ) → e < c → 4 ≤ d → Next c at e d → state_in sts e ≡ stateAt e d
 
 -- each channel has its samples, the first with its header and then two with a byte
 abbrev pub Frames : ℕ → (ℕ → ℕ → ℤ) → ℕ → List ℤ → Type 0
@@ -79,7 +75,7 @@ module _ (c : ℕ) (hc : 0 < c) where
       let q = above c (d / 4) e 1 (above 4 (c * (d / 4) + e) (d % 4) (c * 1) l) in
       omega (arith, q)
 
-  -- ---- one byte more
+  -- ---- the state of each channel
 
   -- after byte d its own channel's next is the one behind it, and every other's the one that it was
   next-is : (e d k : ℕ) → 4 ≤ k → Next c (suc (byte c e d)) e k → k ≡ suc d
@@ -90,30 +86,31 @@ module _ (c : ℕ) (hc : 0 < c) where
       let apart : byte c e (k - 1) ≡ byte c h d → ⊥ = λ s. other (one_place e (k - 1) h d l r s).0 in
       (omega (arith, a, apart), omega (arith, b))
 
-  module _ (P : ℕ → ℕ → Type 0) where
-    pub each_first : ((e : ℕ) → e < c → P e 4) → Each c P (4 * c)
-    each_first h e d l four (a, b) =
-        let is : 4 ≡ d = omega (arith, four, fourth e (d - 1) l a) in
-        subst (P e) is (h e l)
+  module _ (stateAt : ℕ → ℕ → State) where
+    pub states-first : (sts : List State) → ((e : ℕ) → e < c → state_in sts e ≡ stateAt e 4) → States c stateAt (4 * c) sts
+    states-first sts h e d l four (a, b) =
+        let is : d ≡ 4 = omega (arith, four, fourth e (d - 1) l a) in
+        h e l ∙ ap (stateAt e) (sym is)
 
     -- of the channel whose byte stands at the place
-    pub each-now : (ch d : ℕ) → ch < c → 4 ≤ d → Each c P (byte c ch d) → P ch d
-    each-now ch d l four u = u ch d l four (rises ch (d - 1) d (omega arith), omega arith)
+    pub state-now : (ch d : ℕ) (sts : List State) → ch < c → 4 ≤ d → States c stateAt (byte c ch d) sts → state_in sts ch ≡ stateAt ch d
+    state-now ch d sts l four u = u ch d l four (rises ch (d - 1) d (omega arith), omega arith)
 
-    -- behind that byte: Q of its own channel, and of every other that had P
-    pub each_turn : (Q : ℕ → ℕ → Type 0) (ch d : ℕ) → ch < c → Q ch (suc d) → ((e k : ℕ) → (e ≡ ch → ⊥) → P e k → Q e k)
-        → Each c P (byte c ch d) → Each c Q (suc (byte c ch d))
-    each_turn Q ch d l here there u e k h four nx =
+    pub states-turn : (ch d : ℕ) (sts : List State) (st : State) → ch < c → 4 ≤ d → ch < length sts → st ≡ stateAt ch (suc d)
+        → States c stateAt (byte c ch d) sts → States c stateAt (suc (byte c ch d)) (set sts ch st)
+    states-turn ch d sts st l four room is u e k h four' nx =
         cases (eqb e ch)
         (λ t.
         let same = eqb-true e ch t in
-        let k-is = next-is ch d k four (subst (λ (i : ℕ). Next c (suc (byte c ch d)) i k) same nx) in
-        subst (λ (i : ℕ). Q i k) (sym same) (subst (Q ch) (sym k-is) here))
-        (λ t. let other = eqb-false e ch t in there e k other (u e k h four (another e ch d k h l other nx)))
+        let k-is = next-is ch d k four' (subst (λ (i : ℕ). Next c (suc (byte c ch d)) i k) same nx) in
+        subst (λ (i : ℕ). state_in (set sts ch st) i ≡ stateAt i k) (sym same) (get_or-set_same sts ch st zero_state room ∙ is ∙ ap (stateAt ch) (sym k-is)))
+        (λ t.
+        let other = eqb-false e ch t in
+        get_or-set_other sts ch e st zero_state other ∙ u e k h four' (another e ch d k h l other nx))
 
     -- behind the last byte
-    pub each_last : {n m : ℕ} → Shape c n m → Each c P n → (e : ℕ) → e < c → P e (n / c)
-    each_last {n} is u e l =
+    pub states-last : {n m : ℕ} → Shape c n m → (sts : List State) → States c stateAt n sts → (e : ℕ) → e < c → state_in sts e ≡ stateAt e (n / c)
+    states-last {n} is sts u e l =
         let q = n / c in
         let last : byte c e (q - 1) < n = in_list 4 c (omega arith) hc n e (q - 1) is.even l (omega (arith, four_bytes is)) in
         let behind : n ≤ byte c e q =
@@ -121,28 +118,6 @@ module _ (c : ℕ) (hc : 0 < c) where
         (λ t. absurd (omega (arith, in-strand 4 c (omega arith) hc n e q is.even l (ltb-true (byte c e q) n t))))
         (λ t. ltb-false (byte c e q) n t) in
         u e q l (four_bytes is) (last, behind)
-
-  -- ---- the state of each channel
-
-  module _ (stateAt : ℕ → ℕ → State) where
-    abbrev Holds : List State → ℕ → ℕ → Type 0
-    Holds sts e d = state_in sts e ≡ stateAt e d
-
-    pub states-first : (sts : List State) → ((e : ℕ) → e < c → state_in sts e ≡ stateAt e 4) → States c stateAt (4 * c) sts
-    states-first sts = each_first (Holds sts)
-
-    pub state-now : (ch d : ℕ) (sts : List State) → ch < c → 4 ≤ d → States c stateAt (byte c ch d) sts → state_in sts ch ≡ stateAt ch d
-    state-now ch d sts = each-now (Holds sts) ch d
-
-    pub states-turn : (ch d : ℕ) (sts : List State) (st : State) → ch < c → ch < length sts → st ≡ stateAt ch (suc d)
-        → States c stateAt (byte c ch d) sts → States c stateAt (suc (byte c ch d)) (set sts ch st)
-    states-turn ch d sts st l room is =
-        each_turn (Holds sts) (Holds (set sts ch st)) ch d l
-        (get_or-set_same sts ch st zero_state room ∙ is)
-        (λ e k other u. get_or-set_other sts ch e st zero_state other ∙ u)
-
-    pub states-last : {n m : ℕ} → Shape c n m → (sts : List State) → States c stateAt n sts → (e : ℕ) → e < c → state_in sts e ≡ stateAt e (n / c)
-    states-last is sts = each_last (Holds sts) is
 
   -- ---- the samples of each channel
 

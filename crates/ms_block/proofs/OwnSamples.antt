@@ -1,18 +1,14 @@
--- The samples of one channel: the state before the two of each byte, the byte that they are written as, the state behind it, and the largest miss.
--- Assumes nothing.
+-- The samples of one channel: the state before the two of each byte, the byte that they are written as, and the state behind it. Assumes nothing.
 use mathlib.Core.Path.{◌≡◌, ap, ap₂, ◌∙◌}
 use mathlib.Core.List.{List}
-use Prim.Native.Nat.{ℕ, suc, ◌+◌, ◌-◌, ◌*◌, ◌≤◌, ◌<◌, max}
+use Prim.Native.Nat.{ℕ, suc, ◌+◌, ◌-◌, ◌*◌, ◌≤◌, ◌<◌}
 use native.Mathlib.Omega.{arith}
 use lib.IntN.{ℤ, pos}
-use lib.ListN.{length, get_or, take, drop, length-drop}
+use lib.ListN.{length, get_or, drop, length-drop}
 use lib.Seq.{get_or-drop}
-use Rattle.num.specs.Distance.{distance}
 use Rattle.ima_nibble.specs.Step.{State, sixteen, emitted}
 use Rattle.ima_nibble.specs.Table.{ima_steps}
-use Rattle.ima_nibble.specs.Miss.{missed, largest_miss}
 use Rattle.ima_nibble.proofs.Bytes.{writes, then, written_byte, written_next}
-use Rattle.ima_nibble.proofs.Misses.{miss-next}
 use Rattle.ms_block.specs.Block.{encoded_channel}
 
 abbrev pub gives : State → ℤ → ℕ
@@ -24,14 +20,6 @@ moved = then sixteen ima_steps
 -- the state before byte d, the headers' four included
 abbrev pub before : State → List ℤ → ℕ → State
 before st samples d = writes sixteen ima_steps st (drop 1 samples) (d - 4)
-
--- the largest miss before it
-abbrev pub miss_before : State → List ℤ → ℕ → ℕ
-miss_before st samples d = largest_miss sixteen ima_steps st (take (2 * (d - 4)) (drop 1 samples))
-
--- how far a state is from a sample
-abbrev pub apart : ℤ → State → ℕ
-apart x st = distance x st.predictor
 
 module _ (st : State) (samples : List ℤ) (d : ℕ) (four : 4 ≤ d) (h : 2 * d - 6 < length samples) where
   abbrev low : ℤ
@@ -63,13 +51,3 @@ module _ (st : State) (samples : List ℤ) (d : ℕ) (four : 4 ≤ d) (h : 2 * d
       ap (writes sixteen ima_steps st (drop 1 samples)) j
       ∙ written_next sixteen ima_steps (d - 4) st (drop 1 samples) inside
       ∙ ap₂ (λ (x y : ℤ). moved (moved (before st samples d) x) y) low-is high_is
-
-  pub miss-is : miss_before st samples (suc d)
-      ≡ max (miss_before st samples d) (max (apart low (moved (before st samples d) low)) (apart high (moved (moved (before st samples d) low) high)))
-  unfolding missed
-  miss-is =
-      let j : suc d - 4 ≡ suc (d - 4) = omega (arith, four) in
-      let s = before st samples d in
-      ap (λ (i : ℕ). largest_miss sixteen ima_steps st (take (2 * i) (drop 1 samples))) j
-      ∙ miss-next sixteen ima_steps (d - 4) st (drop 1 samples) inside
-      ∙ ap₂ (λ (x y : ℤ). max (miss_before st samples d) (max (apart x (moved s x)) (apart y (moved (moved s x) y)))) low-is high_is

@@ -1,7 +1,6 @@
 pub mod Block
 pub mod Call
 pub mod Header
-pub mod Miss
 pub mod Readings
 pub mod Sizes
 pub mod Weave

@@ -94,7 +94,7 @@ module _ (c : ℕ) (hc : 0 < c) (bytes : List ℕ) where
             (ap (λ (st : State). st.predictor) low-now ∙ sym (low-is own d four inside))
             (ap (λ (st : State). st.predictor) high-now ∙ sym (high_is own d four inside))
             u.frames;
-        befores = states-turn c hc (before_in c bytes) ch d states two l room (high-now ∙ sym (next-is own d four inside)) u.befores;
+        befores = states-turn c hc (before_in c bytes) ch d states two l four room (high-now ∙ sym (next-is own d four inside)) u.befores;
         others = λ e k. ap (λ (st : State). st.clipped) (get_or-set_other states ch e two zero_state (omega (arith, k, l))) ∙ u.others e k;
       }
 

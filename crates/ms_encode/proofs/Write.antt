@@ -1,29 +1,25 @@
--- A block that is being encoded: what is written, the channels' states and the largest miss, before, after and between its bytes. Assumes nothing.
+-- A block that is being encoded: what is written and the channels' states, before, after and between its bytes. Assumes nothing.
 use mathlib.Core.Path.{◌≡◌, refl, sym, ap, ap₂, ◌∙◌, subst}
 use mathlib.Core.List.{List}
-use Prim.Native.Nat.{ℕ, suc, ◌+◌, ◌-◌, ◌*◌, ◌/◌, ◌%◌, ◌≤◌, ◌<◌, max}
+use Prim.Native.Nat.{ℕ, suc, ◌+◌, ◌-◌, ◌*◌, ◌/◌, ◌%◌, ◌≤◌, ◌<◌}
 use native.Mathlib.Omega.{arith}
-use lib.Dec.{eqb}
+use lib.Dec.{ltb, eqb}
 use lib.IntN.{ℤ, pos}
 use lib.ListN.{length, get_or, set, take, drop, length-drop, length-set}
 use lib.Seq.{get_or-set_same, get_or-set_other, set-set, take_all}
-use borrow.Author.Tests.{eqb-true, eqb-false}
+use borrow.Author.Tests.{eqb-true, eqb-false, ltb-true, ltb-false}
 use borrow.Table.Steps.{cases}
 use Rattle.halves.specs.Halves.{bits_of}
 use Rattle.num.proofs.Lists.{as-far, as_long}
 use Rattle.ima_nibble.specs.Step.{State, zero_state, reloaded, sixteen}
 use Rattle.ima_nibble.specs.Table.{ima_steps}
 use Rattle.ima_nibble.specs.Series.{encoded}
-use Rattle.ima_nibble.specs.Miss.{largest_miss}
-use Rattle.ima_nibble.proofs.Misses.{no-miss, miss-under}
 use Rattle.ms_block.specs.Sizes.{most, bytes_of}
 use Rattle.ms_block.proofs.Sizes.{Shape, four_bytes, samples-each}
-use Rattle.ms_block.proofs.Weave.{singly, in_list, strand-at, strand-length, woven-at}
+use Rattle.ms_block.proofs.Weave.{singly, in_list, in-strand, strand-at, strand-length, woven-at}
 use Rattle.ms_block.specs.Block.{encoded_channel, samples_in, state_in, begun_in, begun, encoded_in, block_from, states_from, encoded_ms_block}
-use Rattle.ms_block.specs.Miss.{miss_from}
-use Rattle.ms_block.proofs.Midst.{byte, in_group, Each, each_first, each-now, each_turn, each_last, States, states-first, state-now, states-turn, states-last}
-use Rattle.ms_block.proofs.Misses.{channel-under, channels-at-most}
-use Rattle.ms_block.proofs.OwnSamples.{gives, moved, before, miss_before, apart, byte-is, next-is, miss-is}
+use Rattle.ms_block.proofs.Midst.{byte, in_group, States, states-first, state-now, states-turn, states-last}
+use Rattle.ms_block.proofs.OwnSamples.{gives, moved, before, byte-is, next-is}
 use Rattle.ms_block.proofs.Round.{each-is, in-each, block-length}
 use Rattle.ms_block.proofs.Walk.{Bytes, own, four, own-place, own-inside}
 
@@ -32,29 +28,20 @@ use Rattle.ms_block.proofs.Walk.{Bytes, own, four, own-place, own-inside}
 abbrev before_in : ℕ → List ℤ → List State → ℕ → ℕ → State
 before_in c samples starts e d = before (state_in starts e) (samples_in c samples e) d
 
--- a miss that is no less than channel e's before byte d
-abbrev Covers : ℕ → List ℤ → List State → ℕ → ℕ → ℕ → Type 0
-Covers c samples starts miss e d = miss_before (state_in starts e) (samples_in c samples e) d ≤ miss
-
--- the bytes before the place are written, from the states that the block starts from; and `miss` is no more than that of the whole block, and no less than
--- that of each channel so far
-pub record Upto (c : ℕ) (samples : List ℤ) (starts : List State) (at : ℕ) (out : List ℕ) (states : List State) (miss : ℕ) : Type 0 where
+-- the bytes before the place are written, from the states that the block starts from
+pub record Upto (c : ℕ) (samples : List ℤ) (starts : List State) (at : ℕ) (out : List ℕ) (states : List State) : Type 0 where
   pub written : take at out ≡ take at (block_from c starts samples)
   pub befores : States c (before_in c samples starts) at states
   pub others : (e : ℕ) → c ≤ e → state_in states e ≡ state_in starts e
-  pub under : miss ≤ miss_from c starts samples
-  pub over : Each c (Covers c samples starts miss) at
 
 pub first : (c : ℕ) → 0 < c → (samples : List ℤ) (starts : List State) (out : List ℕ)
-    → take (4 * c) out ≡ take (4 * c) (block_from c starts samples) → Upto c samples starts (4 * c) out starts 0
+    → take (4 * c) out ≡ take (4 * c) (block_from c starts samples) → Upto c samples starts (4 * c) out starts
 unfolding encoded
 first c hc samples starts out same =
     record {
       written = same;
       befores = states-first c hc (before_in c samples starts) starts (λ e l. refl);
       others = λ e l. refl;
-      under = omega arith;
-      over = each_first c hc (Covers c samples starts 0) (λ e l. omega (arith, no-miss sixteen ima_steps (state_in starts e)));
     }
 
 -- which byte stands at a place
@@ -76,18 +63,13 @@ module _ {c n : ℕ} (samples : List ℤ) (starts : List State) (is : Shape c n 
   sample-at ch i h =
       strand-at 1 c (omega arith) hc (pos 0) samples ch i (omega (arith, h, samples-each is)) ∙ ap (λ (p : ℕ). get_or samples p (pos 0)) (singly c ch i)
 
-  -- no miss of a channel is more than all miss
-  own-under : (ch d : ℕ) → ch < c → Covers c samples starts (miss_from c starts samples) ch d
-  own-under ch d l =
-      omega (arith, miss-under sixteen ima_steps (state_in starts ch) (2 * (d - 4)) (drop 1 (samples_in c samples ch)), channel-under c starts samples ch l)
-
   -- a byte of a channel's two samples x and y, at its place
-  pub turn : (ch d : ℕ) (out : List ℕ) (states : List State) (st one two : State) (x y : ℤ) (b miss more : ℕ)
+  pub turn : (ch d : ℕ) (out : List ℕ) (states : List State) (st one two : State) (x y : ℤ) (b : ℕ)
       → ch < c → 4 ≤ d → d < n / c → ch < length states → length out ≡ n
       → x ≡ get_or samples (c * (2 * d - 7) + ch) (pos 0) → y ≡ get_or samples (c * (2 * d - 6) + ch) (pos 0)
-      → st ≡ state_in states ch → one ≡ moved st x → two ≡ moved one y → b ≡ 16 * gives one y + gives st x → more ≡ max (max miss (apart x one)) (apart y two)
-      → Upto c samples starts (byte c ch d) out states miss → Upto c samples starts (suc (byte c ch d)) (set out (byte c ch d) b) (set states ch two) more
-  turn ch d out states st one two x y b miss more l four h some size x-is y-is st-is one-is two_is b-is more-is u =
+      → st ≡ state_in states ch → one ≡ moved st x → two ≡ moved one y → b ≡ 16 * gives one y + gives st x
+      → Upto c samples starts (byte c ch d) out states → Upto c samples starts (suc (byte c ch d)) (set out (byte c ch d) b) (set states ch two)
+  turn ch d out states st one two x y b l four h some size x-is y-is st-is one-is two_is b-is u =
       let mine = samples_in c samples ch in
       let start = state_in starts ch in
       let inside : 2 * d - 6 < length mine = omega (arith, h, four, strand-length 1 c (omega arith) hc (pos 0) samples ch, samples-each is) in
@@ -99,70 +81,51 @@ module _ {c n : ℕ} (samples : List ℤ) (starts : List State) (is : Shape c n 
       let two-own = two_is ∙ ap₂ moved one-own y-own in
       let b-own = b-is ∙ ap₂ (λ (v w : ℕ). 16 * v + w) (ap₂ gives one-own y-own) (ap₂ gives st-own x-own) in
       let b-block = b-own ∙ sym (byte-is start mine d four inside) ∙ sym (block_at samples starts is ch d l place) in
-      let x-miss = ap₂ apart x-own one-own in
-      let y-miss = ap₂ apart y-own two-own in
-      let grown = miss-is start mine d four inside in
-      let own-over = each-now c hc (Covers c samples starts miss) ch d l four u.over in
       record {
         written =
             as-far out (block_from c starts samples) 0 (byte c ch d) b (omega (arith, place, size))
             (omega (arith, place, block-length samples is starts)) b-block u.written;
-        befores = states-turn c hc (before_in c samples starts) ch d states two l some (two-own ∙ sym (next-is start mine d four inside)) u.befores;
+        befores = states-turn c hc (before_in c samples starts) ch d states two l four some (two-own ∙ sym (next-is start mine d four inside)) u.befores;
         others = λ e k. get_or-set_other states ch e two zero_state (omega (arith, k, l)) ∙ u.others e k;
-        under = omega (arith, u.under, more-is, x-miss, y-miss, grown, own-under ch (suc d) l);
-        over =
-            each_turn c hc (Covers c samples starts miss) (Covers c samples starts more) ch d l
-            (omega (arith, more-is, x-miss, y-miss, grown, own-over))
-            (λ e k other below. omega (arith, below, more-is))
-            u.over;
       }
 
   -- the same where the loops stand: the channel's state is in a variable of its own meanwhile
-  pub byte-turn : {g ch start end at : ℕ} (w : Bytes c n g ch start end at) (l : at < end) (k : ℕ) (out : List ℕ) (states : List State) (st one two : State) (x y : ℤ) (b miss more : ℕ)
+  pub byte-turn : {g ch start end at : ℕ} (w : Bytes c n g ch start end at) (l : at < end) (k : ℕ) (out : List ℕ) (states : List State) (st one two : State) (x y : ℤ) (b : ℕ)
       → length out ≡ n → ch < length states
       → k ≡ c * (2 * own w l - 7) + ch → x ≡ get_or samples k (pos 0) → y ≡ get_or samples (k + c) (pos 0)
-      → one ≡ moved st x → two ≡ moved one y → b ≡ 16 * gives one y + gives st x → more ≡ max (max miss (apart x one)) (apart y two)
-      → Upto c samples starts at out (set states ch st) miss → Upto c samples starts (at + 1) (set out at b) (set states ch two) more
-  byte-turn {g} {ch} {start} {end} {at} w l k out states st one two x y b miss more size some k-is x-is y-is one-is two_is b-is more-is u =
+      → one ≡ moved st x → two ≡ moved one y → b ≡ 16 * gives one y + gives st x
+      → Upto c samples starts at out (set states ch st) → Upto c samples starts (at + 1) (set out at b) (set states ch two)
+  byte-turn {g} {ch} {start} {end} {at} w l k out states st one two x y b size some k-is x-is y-is one-is two_is b-is u =
       let d = own w l in
       let here = own-place w l in
       let second : k + c ≡ c * (2 * d - 6) + ch = second-place c ch d k (four w l) k-is in
       let next =
-      turn ch d out (set states ch st) st one two x y b miss more w.channel (four w l) (own-inside w l)
+      turn ch d out (set states ch st) st one two x y b w.channel (four w l) (own-inside w l)
       (omega (arith, some, length-set states ch st)) size
       (x-is ∙ ap (λ (p : ℕ). get_or samples p (pos 0)) k-is) (y-is ∙ ap (λ (p : ℕ). get_or samples p (pos 0)) second)
-      (sym (get_or-set_same states ch st zero_state some)) one-is two_is b-is more-is
-      (subst (λ (p : ℕ). Upto c samples starts p out (set states ch st) miss) (sym here) u) in
+      (sym (get_or-set_same states ch st zero_state some)) one-is two_is b-is
+      (subst (λ (p : ℕ). Upto c samples starts p out (set states ch st)) (sym here) u) in
       let there : suc at ≡ at + 1 = omega arith in
-      subst (λ (p : ℕ). Upto c samples starts p (set out at b) (set states ch two) more) there
-      (subst (λ (sts : List State). Upto c samples starts (suc at) (set out at b) sts more) (set-set states ch st two)
-      (subst (λ (p : ℕ). Upto c samples starts (suc p) (set out p b) (set (set states ch st) ch two) more) here next))
+      subst (λ (p : ℕ). Upto c samples starts p (set out at b) (set states ch two)) there
+      (subst (λ (sts : List State). Upto c samples starts (suc at) (set out at b) sts) (set-set states ch st two)
+      (subst (λ (p : ℕ). Upto c samples starts (suc p) (set out p b) (set (set states ch st) ch two)) here next))
 
   -- behind the last byte
-  module _ (out : List ℕ) (states : List State) (miss : ℕ) (u : Upto c samples starts n out states miss) where
-    -- all of a channel's samples behind the first
-    own-all : (e : ℕ) → take (2 * (n / c - 4)) (drop 1 (samples_in c samples e)) ≡ drop 1 (samples_in c samples e)
-    own-all e =
-        let mine = samples_in c samples e in
-        take_all (2 * (n / c - 4)) (drop 1 mine) (omega (arith, length-drop 1 mine, strand-length 1 c (omega arith) hc (pos 0) samples e, samples-each is))
-
+  module _ (out : List ℕ) (states : List State) (u : Upto c samples starts n out states) where
     ended : (e : ℕ) → e < c → state_in states e ≡ (encoded_in c starts samples e).end
     unfolding encoded_channel
     ended e l =
-        states-last c hc (before_in c samples starts) is states u.befores e l ∙ ap (λ xs. (encoded sixteen ima_steps (state_in starts e) xs).end) (own-all e)
+        let mine = samples_in c samples e in
+        let q = n / c in
+        let short : length (drop 1 mine) ≤ 2 * (q - 4) = omega (arith, length-drop 1 mine, strand-length 1 c (omega arith) hc (pos 0) samples e, samples-each is) in
+        states-last c hc (before_in c samples starts) is states u.befores e l
+        ∙ ap (λ xs. (encoded sixteen ima_steps (state_in starts e) xs).end) (take_all (2 * (q - 4)) (drop 1 mine) short)
 
-    largest-is : miss ≡ miss_from c starts samples
-    largest-is =
-        let Each-over = each_last c hc (Covers c samples starts miss) is u.over in
-        let all-over = channels-at-most c starts samples miss (λ e l. omega (arith, Each-over e l, ap (largest_miss sixteen ima_steps (state_in starts e)) (own-all e))) in
-        omega (arith, all-over, u.under)
-
-    pub ends : length out ≡ n → length states ≡ most → (states ≡ states_from c starts samples) × (out ≡ block_from c starts samples) × (miss ≡ miss_from c starts samples)
+    pub ends : length out ≡ n → length states ≡ most → (states ≡ states_from c starts samples) × (out ≡ block_from c starts samples)
     unfolding states_from
     ends size some = (
       each-is c starts (λ e. (encoded_in c starts samples e).end) states some ended u.others,
       as_long out (block_from c starts samples) 0 n size (block-length samples is starts) u.written,
-      largest-is,
     )
 
 -- ---- the headers

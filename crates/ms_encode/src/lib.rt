@@ -4,7 +4,6 @@ ghost use Rattle.num.specs.Outcome.{outcome};
 ghost use Rattle.adpcm_ima.specs.View.{state_of};
 ghost use Rattle.ms_block.specs.Block.{begun, block_from, states_from, encoded_ms_block};
 ghost use Rattle.ms_block.specs.Call.{encode_ms};
-ghost use Rattle.ms_block.specs.Miss.{miss_from, encode_ms_miss};
 ghost use Rattle.ms_block.specs.Sizes.{Taken};
 
 use adpcm_ima::{AdpcmImaState, IMA_STEP_TABLE};
@@ -12,12 +11,10 @@ use halves::{bits_of, high_half, low_half, pack};
 use ms_layout::{MOST, refusal};
 use num::lesser;
 
-// `refusal` is 0 for done. `miss` is the largest absolute miss over all channels. A refusal hands the states back as they came and a miss of 0, and
-// leaves the buffer alone.
+// `refusal` is 0 for done. A refusal hands the states back as they came, and leaves the buffer alone.
 #[derive(Drop)]
 pub struct Answer {
     pub states: [AdpcmImaState; MOST],
-    pub miss: u16,
     pub refusal: u8,
 }
 
@@ -27,17 +24,20 @@ pub fn encode_adpcm_ima_ms(
     states: [AdpcmImaState; MOST],
     out_buf: &mut [u8],
 ) -> Answer
-    ensures { (outcome result.refusal (map state_of result.states) out_buf.new ≡ encode_ms channels samples.now (map state_of states) out_buf.old) × (result.miss ≡ encode_ms_miss channels samples.now (map state_of states) out_buf.old) }
+    ensures { outcome result.refusal (map state_of result.states) out_buf.new ≡ encode_ms channels samples.now (map state_of states) out_buf.old }
 {
     let c = channels as usize;
     let number = refusal(c, out_buf.len(), samples.len());
     if number == 0 {
         let begun = heads(c, samples, states, out_buf);
-        groups(c, samples, begun, out_buf)
+        let ended = groups(c, samples, begun, out_buf);
+        Answer {
+            refusal: 0,
+            states: ended,
+        }
     } else {
         Answer {
             refusal: number,
-            miss: 0,
             states,
         }
     }
@@ -70,15 +70,19 @@ fn heads(
     states
 }
 
-// Group by group, four bytes of each channel in turn. A channel's last group may be shorter. The largest miss is one number for all channels.
-fn groups(c: usize, samples: &[i16], starts: [AdpcmImaState; MOST], out_buf: &mut [u8]) -> Answer
+// Group by group, four bytes of each channel in turn. A channel's last group may be shorter.
+fn groups(
+    c: usize,
+    samples: &[i16],
+    starts: [AdpcmImaState; MOST],
+    out_buf: &mut [u8],
+) -> [AdpcmImaState; MOST]
     requires { Taken c (length out_buf.old) (length samples.now) × (take (4 * c) out_buf.old ≡ take (4 * c) (block_from c (map state_of starts) samples.now)) }
-    ensures { (result.refusal ≡ 0) × (map state_of result.states ≡ states_from c (map state_of starts) samples.now) × (out_buf.new ≡ block_from c (map state_of starts) samples.now) × (result.miss ≡ miss_from c (map state_of starts) samples.now) }
+    ensures { (map state_of result ≡ states_from c (map state_of starts) samples.now) × (out_buf.new ≡ block_from c (map state_of starts) samples.now) }
 {
     let steps = IMA_STEP_TABLE;
     let n = out_buf.len();
     let mut states = starts;
-    let mut miss = 0;
     let mut at = 4 * c;
     let mut g = 0;
     'block: loop {
@@ -92,12 +96,9 @@ fn groups(c: usize, samples: &[i16], starts: [AdpcmImaState; MOST], out_buf: &mu
             // a group starts at frame 8 g + 1, and the samples of a channel stand c apart
             let mut k = c * (8 * g + 1) + ch;
             while at < end {
-                let x = samples[k];
-                let y = samples[k + c];
-                let first = wide.encode_step(&steps, x);
-                let second = first.next.encode_step(&steps, y);
+                let first = wide.encode_step(&steps, samples[k]);
+                let second = first.next.encode_step(&steps, samples[k + c]);
                 wide = second.next;
-                miss = second.next.larger_miss(y, first.next.larger_miss(x, miss));
                 out_buf[at] = pack(first.nibble, second.nibble);
                 k += 2 * c;
                 at += 1;
@@ -107,9 +108,5 @@ fn groups(c: usize, samples: &[i16], starts: [AdpcmImaState; MOST], out_buf: &mu
         }
         g += 1;
     }
-    Answer {
-        refusal: 0,
-        miss,
-        states,
-    }
+    states
 }

@@ -1,5 +1,4 @@
 pub mod Bits
-pub mod Largest
 pub mod Lists
 pub mod Outcome
 pub mod Shift

@@ -12,7 +12,6 @@ use mir.Val.{bits, hbits, SFits, Fits, to_z, of_z}
 use mir.ValLaws.{to_z-of_z}
 use borrow.Author.Tests.{ltb-true, le-ltb}
 use borrow.Table.Steps.{cases}
-use Rattle.num.specs.Distance.{distance}
 
 -- ---- sums
 
@@ -51,17 +50,13 @@ sub-le : (a b : ℕ) → nat_abs (sub_ℕ a b) ≤ max a b
 sub-le a b = cases (ltb a b) (λ e. rw e (omega (arith, ltb-true a b e))) (λ e. rw e (omega arith))
 
 -- how far two numbers are apart
-pub apart-le : (x y : ℤ) → distance x y ≤ suc (mag x + mag y)
+pub apart-le : (x y : ℤ) → nat_abs (x -ℤ y) ≤ suc (mag x + mag y)
 apart-le (pos a) (pos zero) = omega arith
 apart-le (pos a) (pos (suc b)) = let h = sub-le a (suc b) in omega arith
 apart-le (pos a) (negsuc b) = omega arith
 apart-le (negsuc a) (pos zero) = let h = sub-le 0 (suc a) in omega arith
 apart-le (negsuc a) (pos (suc b)) = omega arith
 apart-le (negsuc a) (negsuc b) = let h = sub-le (suc b) (suc a) in omega arith
-
--- 16 bits without a sign hold that of two numbers of 16 bits
-pub distance-lt : {x y : ℤ} → SFits w16 x → SFits w16 y → distance x y < 65536
-distance-lt {x} {y} f g = omega (arith, apart-le x y, f.sfits, g.sfits)
 
 -- ---- what is read back
 

@@ -2,24 +2,12 @@
 ghost use Rattle.std.specs.Prelude.{◌≡◌, ◌-◌, min, max};
 ghost use Rattle.std.specs.Int.Signed.{mag};
 ghost use Rattle.num.specs.Clamp as Clamp;
-ghost use Rattle.num.specs.Distance as Distance;
 
 // A negative number complemented, -1 - x, and any other as it is.
 pub fn complement(x: i16) -> u32
     ensures { result ≡ mag x }
 {
     if x < 0 { (-1 - x) as u32 } else { x as u32 }
-}
-
-// How far two numbers are apart.
-pub fn distance(x: i16, y: i16) -> u16
-    ensures { result ≡ Distance.distance x y }
-{
-    if x < y {
-        (y as i32 - x as i32) as u16
-    } else {
-        (x as i32 - y as i32) as u16
-    }
 }
 
 pub fn larger(a: u32, b: u32) -> u32

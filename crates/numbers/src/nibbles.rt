@@ -29,7 +29,7 @@ fn print_encode(predictor: i16, index: u8, sample: i16) {
     let e = from.encode(sample);
     state::print(b"encode ", from);
     signed_number(b": ", sample);
-    number(b" gives ", e.emitted.nibble as u64);
+    number(b" gives ", e.nibble as u64);
     state::print(b" and ", e.state);
     text(b"\n");
 }

@@ -46,7 +46,7 @@ fn check_encode(bytes: &[u8]) -> bool
     let nibble = bytes[6];
     let after = state_at(bytes, 7);
     let e = before.encode(sample);
-    if e.emitted.nibble == nibble {
+    if e.nibble == nibble {
         same_numbers(e.state, after)
     } else {
         false

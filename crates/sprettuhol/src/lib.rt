@@ -3,14 +3,11 @@ ghost use Rattle.std.specs.Prelude.{◌≡◌, length};
 ghost use Rattle.num.specs.Outcome.{outcome};
 ghost use Rattle.ima_nibble.specs.Step.{state, sixteen, stepped, emitted};
 ghost use Rattle.ima_nibble.specs.Table.{ima_steps};
-ghost use Rattle.ima_nibble.specs.Miss.{missed};
 ghost use Rattle.ima4_block.specs.Call.{decode_ima4_run, encode_ima4_run};
-ghost use Rattle.ima4_block.specs.Miss.{encode_ima4_run_miss};
 ghost use Rattle.seek_index.specs.Call.{index_ima4, reindex_ima4, decode_ima4_from};
 ghost use Rattle.loss.specs.Loss.{place_of, report};
 ghost use Rattle.ms_block.specs.declared.Reading.TheVariants.{Strict, Lenient};
 ghost use Rattle.ms_block.specs.Call.{encode_ms};
-ghost use Rattle.ms_block.specs.Miss.{encode_ms_miss};
 ghost use Rattle.ms_block.specs.Sizes.{most};
 ghost use Rattle.sprettuhol.specs.Decode.{decode_call};
 ghost use Rattle.sprettuhol.specs.Loss.{or_max, loss_call};
@@ -33,7 +30,7 @@ use repacking::{Answer, repack_adpcm_ima_ms_lenient};
 use seek::{decode_adpcm_ima_ima4_from, index_adpcm_ima_ima4, reindex_adpcm_ima_ima4};
 
 // The header has it too, and so has the Cargo.toml of the Rust crate.
-const VERSION: u32 = 700;
+const VERSION: u32 = 600;
 
 #[unsafe(no_mangle)]
 pub extern "C" fn spr_version() -> u32
@@ -99,9 +96,8 @@ pub extern "C" fn spr_encode_adpcm_ima(
     predictor: &mut i16,
     step_index: &mut u8,
     clipped: &mut u32,
-    miss: &mut i32,
 ) -> u8
-    ensures { (result ≡ emitted sixteen ima_steps (state predictor.old step_index.old clipped.old) sample) × (state predictor.new step_index.new clipped.new ≡ stepped sixteen ima_steps (state predictor.old step_index.old clipped.old) result) × (miss.new ≡ missed sixteen ima_steps (state predictor.old step_index.old clipped.old) sample) }
+    ensures { (result ≡ emitted sixteen ima_steps (state predictor.old step_index.old clipped.old) sample) × (state predictor.new step_index.new clipped.new ≡ stepped sixteen ima_steps (state predictor.old step_index.old clipped.old) result) }
 {
     let before = AdpcmImaState {
         predictor: *predictor,
@@ -113,9 +109,7 @@ pub extern "C" fn spr_encode_adpcm_ima(
     *predictor = next;
     *step_index = encoded.state.step_index;
     *clipped = encoded.state.clipped;
-    let rest = encoded.emitted.miss;
-    *miss = rest;
-    encoded.emitted.nibble
+    encoded.nibble
 }
 
 // A run of blocks. Lengths that do not fit are refused by 3, and then nothing is written.
@@ -149,9 +143,8 @@ pub extern "C" fn spr_encode_ima4(
     step_index: &mut u8,
     clipped: &mut u32,
     bytes: &mut [u8],
-    miss: &mut u32,
 ) -> u8
-    ensures { (outcome result (state predictor.new step_index.new clipped.new) bytes.new ≡ encode_ima4_run (state predictor.old step_index.old clipped.old) samples.now bytes.old) × (miss.new ≡ encode_ima4_run_miss (state predictor.old step_index.old clipped.old) samples.now bytes.old) }
+    ensures { outcome result (state predictor.new step_index.new clipped.new) bytes.new ≡ encode_ima4_run (state predictor.old step_index.old clipped.old) samples.now bytes.old }
 {
     let before = AdpcmImaState {
         predictor: *predictor,
@@ -163,7 +156,6 @@ pub extern "C" fn spr_encode_ima4(
     *predictor = next;
     *step_index = encoded_run.state.step_index;
     *clipped = encoded_run.state.clipped;
-    *miss = encoded_run.miss as u32;
     encoded_run.refusal
 }
 
@@ -264,7 +256,7 @@ fn tell_clipped(answer: ms_decode::Answer, clipped: &mut [u32; MOST]) -> u8
     0
 }
 
-// The states are read and written through three numbers each, for all eight channels. The miss is stored in any case.
+// The states are read and written through three numbers each, for all eight channels.
 #[unsafe(no_mangle)]
 pub extern "C" fn spr_encode_ms(
     channels: u8,
@@ -273,9 +265,8 @@ pub extern "C" fn spr_encode_ms(
     step_indices: &mut [u8; MOST],
     clipped: &mut [u32; MOST],
     block: &mut [u8],
-    miss: &mut u32,
 ) -> u8
-    ensures block_after { (outcome result (states_of predictors.new step_indices.new clipped.new) block.new ≡ encode_ms channels samples.now (states_of predictors.old step_indices.old clipped.old) block.old) × (miss.new ≡ encode_ms_miss channels samples.now (states_of predictors.old step_indices.old clipped.old) block.old) }
+    ensures block_after { outcome result (states_of predictors.new step_indices.new clipped.new) block.new ≡ encode_ms channels samples.now (states_of predictors.old step_indices.old clipped.old) block.old }
     ensures predictors_len { (length predictors.new ≡ most) × (length step_indices.new ≡ most) × (length clipped.new ≡ most) }
 {
     let before = states_of(*predictors, *step_indices, *clipped);
@@ -284,7 +275,6 @@ pub extern "C" fn spr_encode_ms(
     *predictors = predictors_of(after);
     *step_indices = step_indices_of(after);
     *clipped = clipped_of(after);
-    *miss = encoded_block.miss as u32;
     encoded_block.refusal
 }
 

@@ -1,15 +1,12 @@
 //! Makes the same calls at random with audio_codec_algorithms and with the proved library in its place,
 //! from one source that is compiled with each (../calls.rs), and compares all that they leave. The calls
-//! that the binding adds are held to the Rust too (beyond.rs, seek.rs), and the counts of clipped steps and the
-//! misses to plain loops (metered.rs). Any difference fails the run, and so does an answer that never came, or was
-//! not due.
+//! that the binding adds are held to the Rust too (beyond.rs, seek.rs), and the counts of clipped steps to a plain
+//! loop (metered.rs). Any difference fails the run, and so does an answer that never came, or was not due.
 
 mod beyond;
 #[path = "../../differential/src/clips/plain.rs"]
 mod clips;
 mod metered;
-#[path = "../../differential/src/misses/plain.rs"]
-mod misses;
 #[path = "../../differential/src/ms/oracle.rs"]
 mod oracle;
 #[path = "../../differential/src/loss/plain.rs"]

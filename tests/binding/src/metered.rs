@@ -1,21 +1,19 @@
-//! The calls of the module `metered`, held to the Rust as those at the root are, their counts of clipped steps to a
-//! plain loop, and what the encoders miss to the Rust's predictor behind each sample. Counts start at 0, at any
-//! number, and at the last ones. What is refused leaves them as they were, and tells no miss.
+//! The calls of the module `metered`, held to the Rust as those at the root are, and their counts of clipped steps
+//! to a plain loop. Counts start at 0, at any number, and at the last ones. What is refused leaves them as they
+//! were.
 
 use crate::beyond::{self, both_decodings, decode_blocks, encode_blocks, ms_block, told, Both};
-use crate::{clips, encode as encode_by_rust, misses, seek, strict};
+use crate::{clips, encode as encode_by_rust, seek, strict};
 use audio_codec_algorithms::{decode_adpcm_ima, encode_adpcm_ima, AdpcmImaState};
 use calls_rust::{below, index as step_index, lent, pick, plain as numbers, random, sample};
 use calls_rust::{samples, signal::Random, Samples};
-use sprettuhol::metered::{self, Encoded, State};
+use sprettuhol::metered::{self, State};
 use sprettuhol::{Error, Refusal};
 use std::fmt::Debug;
 
 const _: fn() = state::<State>;
-const _: fn() = encoded::<Encoded>;
 
 fn state<T: Debug + Clone + PartialEq + Default + Send + Sync + 'static>() {}
-fn encoded<T: Debug + Copy + Eq + Send + Sync + 'static>() {}
 
 pub const CALLS: [fn(u64) -> Both; 10] = [
     derived,
@@ -94,10 +92,13 @@ fn derived(seed: u64) -> Both {
 fn decode(seed: u64) -> Both {
     let random = &mut random(seed);
     let nibble = below(random, 256) as u8;
-    let rust = |state: &mut _| (nibble, [decode_adpcm_ima(nibble, state).into()]);
-    let binding = |state: &mut _| [metered::decode_adpcm_ima(nibble, state).into()];
-    let call = "metered::decode_adpcm_ima";
-    one_step(call, nibble, start(random), rust, binding)
+    let call = (
+        "metered::decode_adpcm_ima",
+        metered::decode_adpcm_ima as fn(_, &mut _) -> _,
+    );
+    one_step(call, nibble, start(random), |nibble, state| {
+        (nibble, decode_adpcm_ima(nibble, state))
+    })
 }
 
 fn encode(seed: u64) -> Both {
@@ -105,34 +106,30 @@ fn encode(seed: u64) -> Both {
     // an encoder clips at samples near the ends
     let any = sample(random);
     let sample = pick(random, &[i16::MIN, i16::MAX, any, any]);
-    let rust = |state: &mut AdpcmImaState| {
+    let call = (
+        "metered::encode_adpcm_ima",
+        metered::encode_adpcm_ima as fn(_, &mut _) -> _,
+    );
+    one_step(call, sample, start(random), |sample, state| {
         let nibble = encode_adpcm_ima(sample, state);
-        let miss = misses::miss(sample, state.predictor);
-        (nibble, [nibble.into(), miss])
-    };
-    let binding = |state: &mut _| {
-        let Encoded { nibble, miss } = metered::encode_adpcm_ima(sample, state);
-        [nibble.into(), miss]
-    };
-    let call = "metered::encode_adpcm_ima";
-    one_step(call, sample, start(random), rust, binding)
+        (nibble, nibble)
+    })
 }
 
-/// Both tell all numbers that the call answers, and the Rust the nibble of the step before them.
-fn one_step<const NUMBERS: usize>(
-    call: &'static str,
-    input: impl Debug,
+/// The Rust answers the nibble of the step too.
+fn one_step<A: Copy + Debug, B: Into<i32>>(
+    (call, binding): (&'static str, fn(A, &mut State) -> B),
+    input: A,
     start: clips::State,
-    rust: impl FnOnce(&mut AdpcmImaState) -> (u8, [i32; NUMBERS]),
-    binding: impl FnOnce(&mut State) -> [i32; NUMBERS],
+    rust: impl FnOnce(A, &mut AdpcmImaState) -> (u8, B),
 ) -> Both {
     let mut expected = start;
-    let (nibble, answer) = moved(&mut expected, rust);
+    let (nibble, answer) = moved(&mut expected, |state| rust(input, state));
     expected.2 = counted(start, |state| clips::step(nibble, state));
     let clips = counted((start.0, start.1, 0), |state| clips::step(nibble, state));
-    let outcome = |answer: [i32; NUMBERS], state| {
+    let outcome = |answer: B, state| {
         let of = ["unclipped", "clipped"][clips as usize];
-        let left = [answer.to_vec(), three(state)].concat();
+        let left = [vec![answer.into()], three(state)].concat();
         (
             call,
             format!("{of}: done"),
@@ -141,7 +138,7 @@ fn one_step<const NUMBERS: usize>(
         )
     };
     let mut state = metered(start);
-    let by_binding = binding(&mut state);
+    let by_binding = binding(input, &mut state);
     (outcome(answer, expected), outcome(by_binding, of(&state)))
 }
 
@@ -219,27 +216,24 @@ fn encode_run(seed: u64) -> Both {
     let run @ (_, len, samples_len) = beyond::run_lengths(random);
     let samples = samples(random, samples_len);
     let (of, refusal) = beyond::run_of(run);
-    let (mut due, mut told) = (None, None);
     let rust = |state: &mut clips::State, out: &mut [u8]| {
         refusal.unwrap_or_else(|| {
             let before = *state;
             moved(state, |state| encode_blocks(&samples, state, out));
             state.2 = counted(before, |state| clips::encoded(out, state));
-            due = Some(misses::run(&samples, (before.0, before.1)));
             "done"
         })
     };
-    let binding = |state: &mut _, out: &mut [_]| {
-        told = Some(metered::encode_adpcm_ima_ima4_run(&samples, state, out)?);
-        Ok(())
-    };
     let call = "metered::encode_adpcm_ima_ima4_run";
     let given = format!("{len} bytes, {samples_len} samples");
-    let start = start(random);
-    let (mut expected, mut by_binding) = both(call, (&of, given), start, len, rust, binding);
-    expected.3.extend(due.map(|miss| miss as i32));
-    by_binding.3.extend(told.map(|miss| miss as i32));
-    (expected, by_binding)
+    both(
+        call,
+        (&of, given),
+        start(random),
+        len,
+        rust,
+        |state, out| metered::encode_adpcm_ima_ima4_run(&samples, state, out),
+    )
 }
 
 fn index(seed: u64) -> Both {
@@ -299,48 +293,41 @@ fn encode_ms(seed: u64) -> Both {
     let given = Samples::new(random);
     let counts: Vec<u32> = (0..given.channels).map(|_| count(random)).collect();
     let by = |encode: EncodeMs| {
-        let (mut counts, mut miss) = (counts.clone(), None);
+        let mut counts = counts.clone();
         let call = "metered::encode_adpcm_ima_ms";
         let mut outcome = given.encoded(call, |samples, states, out| {
-            miss = Some(encode(samples, (states, &mut counts), out)?);
-            Ok::<_, Error>(())
+            encode(samples, (states, &mut counts), out)
         });
-        let told = counts.into_iter().chain(miss);
-        outcome.3.extend(told.map(|number| number as i32));
+        outcome.3.extend(counts.iter().map(|&count| count as i32));
         outcome
     };
     (by(encode_ms_by_rust), by(encode_ms_by_binding))
 }
 
-/// Answers the largest miss.
-type EncodeMs = fn(&[i16], (&mut [AdpcmImaState], &mut [u32]), &mut [u8]) -> Result<u32, Error>;
+type EncodeMs = fn(&[i16], (&mut [AdpcmImaState], &mut [u32]), &mut [u8]) -> Result<(), Error>;
 
 fn encode_ms_by_rust(
     samples: &[i16],
     (states, counts): (&mut [AdpcmImaState], &mut [u32]),
     out: &mut [u8],
-) -> Result<u32, Error> {
+) -> Result<(), Error> {
     let channels = match states.len() {
         channels @ 1..=8 => channels,
         _ => return Err(Error::InvalidChannels),
     };
-    let before = states
-        .iter()
-        .map(|state| (state.predictor, state.step_index));
-    let before: Vec<misses::State> = before.collect();
     encode_by_rust(samples, states, out)?;
     let mut eight = [0; 8];
     eight[..channels].copy_from_slice(counts);
     clips::block(channels as u8, out, &mut eight);
     counts.copy_from_slice(&eight[..channels]);
-    Ok(misses::block(channels as u8, samples, &before))
+    Ok(())
 }
 
 fn encode_ms_by_binding(
     samples: &[i16],
     (states, counts): (&mut [AdpcmImaState], &mut [u32]),
     out: &mut [u8],
-) -> Result<u32, Error> {
+) -> Result<(), Error> {
     let pairs = states.iter().zip(&*counts);
     let lent = pairs.map(|(state, &count)| (state.predictor, state.step_index, count));
     let mut lent: Vec<State> = lent.map(metered).collect();

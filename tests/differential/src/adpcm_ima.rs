@@ -7,8 +7,7 @@
 
 use crate::domain::predictors;
 use crate::lent;
-use crate::misses::expected;
-use crate::nibble::{oracle, ours, Before};
+use crate::nibble::{oracle, ours};
 use crate::parallel::each;
 use crate::places::Places;
 use crate::report::{compare_each, Report};
@@ -42,7 +41,8 @@ fn encode(progress: bool) -> [Report; 2] {
         for predictor in predictors() {
             let samples = places.samples(predictor);
             let inputs = samples.map(|sample| (sample, predictor, index));
-            compare_encoders([&over_c, &in_place], inputs);
+            let both = |input| [ours::encode(input), lent::encode(input)];
+            compare_each([&over_c, &in_place], inputs, both, oracle::encode);
             // a check of the samples themselves, from some states
             if number(predictor, index).is_multiple_of(4099) {
                 places.check(predictor);
@@ -50,12 +50,6 @@ fn encode(progress: bool) -> [Report; 2] {
         }
     });
     [over_c, in_place]
-}
-
-/// The encoder over C, and lent its state. Compared are the nibble, the miss and both numbers of the state.
-pub fn compare_encoders(reports: [&Report; 2], inputs: impl Iterator<Item = Before<i16>>) {
-    let both = |input| [ours::encode(input), lent::encode(input)];
-    compare_each(reports, inputs, both, expected::encode);
 }
 
 /// Each state has a number below 2^24.

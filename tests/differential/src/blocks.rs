@@ -1,7 +1,7 @@
 //! A run of ima4 blocks, in one shape for both sides: blocks in, blocks out, and a state that is handed
 //! from block to block and back to the caller. The number that comes back is 0 when all is done. A state
 //! is a predictor and a step index. What ours counts of clipped steps is not looked at here, for the oracle does
-//! not count them. Nor does it tell a miss, as our encoder does. bench/ uses this file too.
+//! not count them. bench/ uses this file too.
 
 /// A block has 34 bytes, two of them its header, and 64 samples.
 pub const BYTES: usize = 34;
@@ -11,20 +11,8 @@ pub const MOST: usize = 1024;
 
 pub type State = (i16, u8);
 
-/// What our encoder answers: the number, and the largest miss without its sign.
-pub type Encoded = (u8, u32);
-
-/// Lends an encoder a number for its miss, which the call only writes. No miss is as large as what stands there
-/// before.
-#[inline(always)]
-pub fn told(encode: impl FnOnce(&mut u32) -> u8) -> Encoded {
-    let mut miss = 0x5a5a_5a5a;
-    let number = encode(&mut miss);
-    (number, miss)
-}
-
 pub mod ours {
-    use super::{told, Encoded, State};
+    use super::State;
     use crate::ffi;
 
     #[inline(always)]
@@ -33,8 +21,8 @@ pub mod ours {
     }
 
     #[inline(always)]
-    pub fn encode(samples: &[i16], (predictor, index): &mut State, bytes: &mut [u8]) -> Encoded {
-        told(|miss| ffi::encode_ima4(samples, (predictor, index, &mut 0), bytes, miss))
+    pub fn encode(samples: &[i16], (predictor, index): &mut State, bytes: &mut [u8]) -> u8 {
+        ffi::encode_ima4(samples, (predictor, index, &mut 0), bytes)
     }
 }
 

@@ -1,24 +1,18 @@
 //! The two calls on runs of ima4 blocks, each by both sides. A state is one of two numbers, or of three if it
-//! counts clipped steps. A decoder answers a number, and an encoder tells its miss too.
+//! counts clipped steps.
 
-use crate::blocks::{oracle, ours, Encoded, State, BYTES, SAMPLES};
-use crate::misses::expected;
+use crate::blocks::{oracle, ours, State, BYTES, SAMPLES};
 
-/// What a call returns that refuses its buffers.
-pub const REFUSED: u8 = 3;
-
-/// A run by one side: what goes in, the state, what comes out, and the answer.
-pub type Run<A, B, S, R> = fn(&[A], &mut S, &mut [B]) -> R;
+/// A run by one side: what goes in, the state, what comes out, and the number that is returned.
+pub type Run<A, B, S> = fn(&[A], &mut S, &mut [B]) -> u8;
 
 /// One of the two calls, by both sides. A block goes in as `from` numbers, and comes out as `to`.
-pub struct Call<A, B, S = State, R = u8> {
+pub struct Call<A, B, S = State> {
     pub name: &'static str,
-    pub ours: Run<A, B, S, R>,
-    pub oracle: Run<A, B, S, R>,
+    pub ours: Run<A, B, S>,
+    pub oracle: Run<A, B, S>,
     pub from: usize,
     pub to: usize,
-    /// What it answers if it refuses its buffers.
-    pub refusal: R,
 }
 
 pub const DECODE: Call<u8, i16> = Call {
@@ -27,14 +21,12 @@ pub const DECODE: Call<u8, i16> = Call {
     oracle: oracle::decode,
     from: BYTES,
     to: SAMPLES,
-    refusal: REFUSED,
 };
 
-pub const ENCODE: Call<i16, u8, State, Encoded> = Call {
+pub const ENCODE: Call<i16, u8> = Call {
     name: "encode",
     ours: ours::encode,
-    oracle: expected::encode_run,
+    oracle: oracle::encode,
     from: SAMPLES,
     to: BYTES,
-    refusal: (REFUSED, 0),
 };

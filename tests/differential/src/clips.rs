@@ -1,6 +1,5 @@
 //! How many steps have clipped. The oracle does not count them, so here ours is held to a plain loop over the
-//! nibbles, and beside that to the oracle as everywhere: all three numbers of a state are compared, and the misses
-//! too.
+//! nibbles, and beside that to the oracle as everywhere: all three numbers of a state are compared.
 
 mod expected;
 mod ms;

@@ -10,8 +10,8 @@ use crate::runs::{contents, STATES};
 use crate::signal::speech;
 use std::fmt::Debug;
 
-/// Ours in two parts is held to the oracle's whole, and so is ours in one: the numbers, the encoder's miss, all
-/// that comes out, and both numbers of the state.
+/// Ours in two parts is held to the oracle's whole, and so is ours in one: the numbers, all that comes
+/// out, and both numbers of the state.
 pub fn report(progress: bool) -> Report {
     let report = Report::start(progress, "ima4 cuts");
     let all = [0, 1, 2, 3, 4, 5, 6, 7];
@@ -28,21 +28,15 @@ pub fn report(progress: bool) -> Report {
     report
 }
 
-/// Hands back what the oracle made of the whole. Of the answers to two parts the larger one counts: their numbers
-/// are 0, so it is the one with the larger miss.
-pub fn compare<A, B, S, R>(
+/// Hands back what the oracle made of the whole.
+pub fn compare<A, B: Copy + PartialEq + Debug + From<u8>, S: Copy + PartialEq + Debug>(
     report: &Report,
     name: &str,
-    call: &Call<A, B, S, R>,
+    call: &Call<A, B, S>,
     input: &[A],
     state: S,
     edges: &[usize],
-) -> Vec<B>
-where
-    B: Copy + PartialEq + Debug + From<u8>,
-    S: Copy + PartialEq + Debug,
-    R: Copy + Ord + Debug,
-{
+) -> Vec<B> {
     let len = input.len() / call.from * call.to;
     let whole = Outcome::of(len, state, |state, out| (call.oracle)(input, state, out));
     let ours = Outcome::of(len, state, |state, out| (call.ours)(input, state, out));
@@ -51,8 +45,8 @@ where
         let ours = Outcome::of(len, state, |state, out| {
             let (first, rest) = input.split_at(edge * call.from);
             let (out_of_first, out_of_rest) = out.split_at_mut(edge * call.to);
-            let answer = (call.ours)(first, state, out_of_first);
-            answer.max((call.ours)(rest, state, out_of_rest))
+            let number = (call.ours)(first, state, out_of_first);
+            number.max((call.ours)(rest, state, out_of_rest))
         });
         ours.compare(report, (call.name, name, state, "cut at", edge), &whole);
     }

@@ -2,9 +2,8 @@
 //! its index is the header's, lowered to 88, and its predictor is within 127 of the header's. The encoder
 //! writes its state into the header, so it starts from every predictor there is.
 
-use crate::blocks::{oracle, ours, Encoded, State, BYTES, SAMPLES};
+use crate::blocks::{oracle, ours, State, BYTES, SAMPLES};
 use crate::domain;
-use crate::misses::expected;
 use crate::parallel::each;
 use crate::report::Report;
 use crate::runs::random;
@@ -35,7 +34,7 @@ pub fn decode(progress: bool) -> Report {
 }
 
 /// All 65,536 predictors, each with some indices, inside the table and above it, and with samples that
-/// vary. Compared are the number, the miss, the 34 bytes and both numbers of the state.
+/// vary. Compared are the number, the 34 bytes and both numbers of the state.
 pub fn encode(progress: bool) -> Report {
     let report = Report::start(progress, "encode_ima4");
     let samples = samples();
@@ -47,8 +46,8 @@ pub fn encode(progress: bool) -> Report {
             (block, (predictor, index))
         };
         let inputs = [0, 1, 44, 87, 88, 89, 127, 128, 200, 255].into_iter();
-        let (ours, oracle) = (one(ours::encode), one(expected::encode_run));
-        report.compare::<_, (Encoded, State, [u8; BYTES])>(inputs.map(input), ours, oracle);
+        let (ours, oracle) = (one(ours::encode), one(oracle::encode));
+        report.compare::<_, (u8, State, [u8; BYTES])>(inputs.map(input), ours, oracle);
     });
     report
 }
@@ -78,14 +77,14 @@ fn indices(header: u16) -> [u8; 9] {
 }
 
 /// One side's call on one block, as a function of plain values.
-pub fn one<A, S, B: Copy + From<u8>, R, const N: usize, const M: usize>(
-    run: impl Fn(&[A], &mut S, &mut [B]) -> R,
-) -> impl Fn(([A; N], S)) -> (R, S, [B; M]) {
+pub fn one<A, S, B: Copy + From<u8>, const N: usize, const M: usize>(
+    run: impl Fn(&[A], &mut S, &mut [B]) -> u8,
+) -> impl Fn(([A; N], S)) -> (u8, S, [B; M]) {
     move |(block, mut state)| {
         // what is not written is seen
         let mut out = [B::from(0x5a); M];
-        let answer = run(&block, &mut state, &mut out);
-        (answer, state, out)
+        let number = run(&block, &mut state, &mut out);
+        (number, state, out)
     }
 }
 

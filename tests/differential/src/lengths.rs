@@ -1,7 +1,7 @@
 //! Buffers whose lengths do not fit, or are too long, are refused and nothing is written. The oracle's
 //! arrays have fixed lengths, so here it is held to the rule about them first.
 
-use crate::blocks::{Encoded, State, BYTES, MOST, SAMPLES};
+use crate::blocks::{State, BYTES, MOST, SAMPLES};
 use crate::calls::{Call, DECODE, ENCODE};
 use crate::outcome::Outcome;
 use crate::parallel::each;
@@ -11,6 +11,8 @@ use crate::signal::noise;
 use std::collections::BTreeSet;
 use std::fmt::Debug;
 
+/// What a call returns that refuses its buffers.
+const REFUSED: u8 = 3;
 /// No length is longer, of bytes or of samples.
 const LONGEST: usize = 2 * MOST * SAMPLES + 1;
 /// An index above the table stays as it was, too.
@@ -23,11 +25,11 @@ pub fn report(progress: bool) -> Report {
 }
 
 /// All lengths of bytes with all lengths of samples, those that fit among them. Compared are the number,
-/// the encoder's miss, the buffer with the room about it, and all numbers of the state.
+/// the buffer with the room about it, and all numbers of the state.
 pub fn compare_all<S: Copy + PartialEq + Debug + Sync>(
     report: &Report,
     decode: &Call<u8, i16, S>,
-    encode: &Call<i16, u8, S, Encoded>,
+    encode: &Call<i16, u8, S>,
     states: [S; 4],
 ) {
     let (bytes, samples) = (random(1, LONGEST), noise(1, LONGEST));
@@ -60,10 +62,9 @@ fn compare<
     A: Clone + PartialEq,
     B: Copy + PartialEq + Debug + From<u8>,
     S: Copy + PartialEq + Debug,
-    R: Copy + PartialEq + Debug,
 >(
     report: &Report,
-    call: &Call<A, B, S, R>,
+    call: &Call<A, B, S>,
     taken: bool,
     input: &[A],
     len: usize,
@@ -74,7 +75,7 @@ fn compare<
         let ours = Outcome::of(len, state, |state, out| (call.ours)(input, state, out));
         let expected = Outcome::of(len, state, |state, out| match taken {
             true => (call.oracle)(input, state, out),
-            false => call.refusal,
+            false => REFUSED,
         });
         ours.compare(report, (call.name, input.len(), len, state), &expected);
         assert!(input == before, "a call wrote to what it reads");

@@ -1,7 +1,7 @@
 //! The two calls that are lent a state, in place, as the Rust's own are.
 
 use crate::clips::plain::State as Metered;
-use crate::nibble::{After, Before, Encoded};
+use crate::nibble::{After, Before};
 
 /// Laid out as the proved struct is, which says `repr(C)` too.
 #[repr(C)]
@@ -11,19 +11,12 @@ struct State {
     clipped: u32,
 }
 
-/// What the encoder returns, laid out likewise.
-#[repr(C)]
-struct Emitted {
-    nibble: u8,
-    miss: i32,
-}
-
 mod c {
-    use super::{Emitted, State};
+    use super::State;
 
     extern "C" {
         pub fn decode_adpcm_ima(encoded_nibble: u8, state: *mut State) -> i16;
-        pub fn encode_adpcm_ima(sample_value: i16, state: *mut State) -> Emitted;
+        pub fn encode_adpcm_ima(sample_value: i16, state: *mut State) -> u8;
     }
 }
 
@@ -34,9 +27,9 @@ pub fn decode((nibble, predictor, index): Before<u8>) -> After<i16> {
 }
 
 #[inline(always)]
-pub fn encode((sample, predictor, index): Before<i16>) -> After<Encoded> {
-    let (encoded, (predictor, index, _)) = encode_metered(sample, (predictor, index, 0));
-    (encoded, predictor, index)
+pub fn encode((sample, predictor, index): Before<i16>) -> After<u8> {
+    let (nibble, (predictor, index, _)) = encode_metered(sample, (predictor, index, 0));
+    (nibble, predictor, index)
 }
 
 /// The same with a count.
@@ -47,10 +40,9 @@ pub fn decode_metered(nibble: u8, state: Metered) -> (i16, Metered) {
 }
 
 #[inline(always)]
-pub fn encode_metered(sample: i16, state: Metered) -> (Encoded, Metered) {
+pub fn encode_metered(sample: i16, state: Metered) -> (u8, Metered) {
     // SAFETY: as above.
-    let (emitted, state) = lending(state, |state| unsafe { c::encode_adpcm_ima(sample, state) });
-    ((emitted.nibble, emitted.miss), state)
+    lending(state, |state| unsafe { c::encode_adpcm_ima(sample, state) })
 }
 
 /// Stands on either side of the state that is lent, and has to stay as it is.

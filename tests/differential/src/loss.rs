@@ -48,13 +48,6 @@ fn ours(before: &[i16], after: &[i16]) -> Told {
     told
 }
 
-/// The largest difference that ours tells of two runs that it takes.
-pub fn peak(before: &[i16], after: &[i16]) -> u16 {
-    let told = ours(before, after);
-    assert_eq!(told.number, 0, "{} and {}", before.len(), after.len());
-    told.peak[1]
-}
-
 /// The rule: two runs of equal length, 0 to 131,063.
 fn expected(before: &[i16], after: &[i16]) -> Told {
     let mut told = UNTOLD;

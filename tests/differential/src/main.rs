@@ -23,7 +23,6 @@ mod ledger;
 mod lengths;
 mod lent;
 mod loss;
-mod misses;
 mod ms;
 mod nibble;
 mod outcome;
@@ -69,7 +68,6 @@ fn main() -> ExitCode {
     reports.extend(repack::reports(chunks.is_some()));
     reports.extend(loss::reports(chunks.is_some()));
     reports.extend(clips::reports(chunks.is_some()));
-    reports.extend(misses::reports(chunks.is_some()));
     reports.extend(chunks.map(exhaustive::encode));
     verdict(&reports)
 }

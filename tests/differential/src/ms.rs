@@ -4,7 +4,7 @@
 //! reads; strict reading has runs of its own. What the scope names by number is held at the end.
 
 pub mod block;
-pub mod both;
+mod both;
 pub mod contents;
 pub mod headers;
 mod isolation;

@@ -1,20 +1,14 @@
 //! One nibble of IMA ADPCM, in one shape for both sides: an input and the state before it, an answer and
 //! the state after it, all plain numbers. A state is a predictor and a step index. What ours counts of clipped
-//! steps is not looked at here, for the oracle does not count them. Nor does it tell a miss, as our encoder does.
-//! bench/ uses this file too.
+//! steps is not looked at here, for the oracle does not count them. bench/ uses this file too.
 
 /// A nibble (any byte), or a sample, with the state before it.
 pub type Before<T> = (T, i16, u8);
 /// A sample, or a nibble, with the state after it.
 pub type After<T> = (T, i16, u8);
-/// A nibble, and by how much it misses its sample.
-pub type Encoded = (u8, i32);
-
-/// What a miss is before a call that only writes it. None is so large.
-pub const UNTOLD: i32 = 0x5a5a_5a5a;
 
 pub mod ours {
-    use super::{After, Before, Encoded, UNTOLD};
+    use super::{After, Before};
     use crate::ffi;
 
     #[inline(always)]
@@ -24,11 +18,9 @@ pub mod ours {
     }
 
     #[inline(always)]
-    pub fn encode((sample, mut predictor, mut index): Before<i16>) -> After<Encoded> {
-        let mut miss = UNTOLD;
-        let state = (&mut predictor, &mut index, &mut 0);
-        let nibble = ffi::encode_adpcm_ima(sample, state, &mut miss);
-        ((nibble, miss), predictor, index)
+    pub fn encode((sample, mut predictor, mut index): Before<i16>) -> After<u8> {
+        let nibble = ffi::encode_adpcm_ima(sample, (&mut predictor, &mut index, &mut 0));
+        (nibble, predictor, index)
     }
 }
 

@@ -7,33 +7,26 @@ use std::fmt::Debug;
 /// seen.
 const ROOM: usize = 64;
 
-/// The answer, the state, and the buffer with the room about it. The answer is the number that was returned,
-/// with the miss if the call tells one. The state is what the call has of it: one, eight, or `()`.
+/// The number that was returned, the state, and the buffer with the room about it. The state is what the
+/// call has of it: one, eight, or `()`.
 #[derive(PartialEq)]
-pub struct Outcome<S, T, R = u8> {
-    answer: R,
+pub struct Outcome<S, T> {
+    number: u8,
     state: S,
     all: Vec<T>,
 }
 
-impl<S, T> Outcome<S, T> {
-    pub fn is_done(&self) -> bool {
-        self.answer == 0
-    }
-}
-
-impl<S, T, R> Outcome<S, T, R>
-where
-    S: Copy + PartialEq + Debug,
-    T: Copy + PartialEq + Debug + From<u8>,
-    R: Copy + PartialEq + Debug,
-{
+impl<S: Copy + PartialEq + Debug, T: Copy + PartialEq + Debug + From<u8>> Outcome<S, T> {
     /// Lends the call a buffer of that length. There is a pattern in it, so that what is not written is
     /// seen too.
-    pub fn of(len: usize, mut state: S, call: impl FnOnce(&mut S, &mut [T]) -> R) -> Self {
+    pub fn of(len: usize, mut state: S, call: impl FnOnce(&mut S, &mut [T]) -> u8) -> Self {
         let mut all: Vec<T> = (0..ROOM + len + ROOM).map(pattern).collect();
-        let answer = call(&mut state, &mut all[ROOM..ROOM + len]);
-        Outcome { answer, state, all }
+        let number = call(&mut state, &mut all[ROOM..ROOM + len]);
+        Outcome { number, state, all }
+    }
+
+    pub fn is_done(&self) -> bool {
+        self.number == 0
     }
 
     pub fn buffer(&self) -> &[T] {
@@ -51,10 +44,10 @@ where
         report.count(1, u64::from(differ));
     }
 
-    /// Its answer and state, and what stands at a place of the buffer.
-    fn at(&self, place: Option<usize>) -> (R, S, Option<(isize, T)>) {
+    /// Its number and state, and what stands at a place of the buffer.
+    fn at(&self, place: Option<usize>) -> (u8, S, Option<(isize, T)>) {
         let value = |place| (place as isize - ROOM as isize, self.all[place]);
-        (self.answer, self.state, place.map(value))
+        (self.number, self.state, place.map(value))
     }
 }
 

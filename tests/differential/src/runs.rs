@@ -20,7 +20,7 @@ pub const STATES: [State; 8] = [
     (-12345, 44),
 ];
 
-/// Compared are the number, the encoder's miss, all that comes out, and both numbers of the state.
+/// Compared are the number, all that comes out, and both numbers of the state.
 pub fn reports(progress: bool) -> [Report; 2] {
     let encoded = Report::start(progress, "encode_ima4 runs");
     let decoded = Report::start(progress, "decode_ima4 runs");
@@ -48,18 +48,13 @@ fn decode(report: &Report, name: impl Debug, bytes: &[u8]) {
 }
 
 /// Compares a run, and hands back what the oracle made of it.
-pub fn both<A, B, S, R>(
+pub fn both<A, B: Copy + PartialEq + Debug + From<u8>, S: Copy + PartialEq + Debug>(
     report: &Report,
     name: impl Debug,
-    call: &Call<A, B, S, R>,
+    call: &Call<A, B, S>,
     input: &[A],
     state: S,
-) -> Vec<B>
-where
-    B: Copy + PartialEq + Debug + From<u8>,
-    S: Copy + PartialEq + Debug,
-    R: Copy + PartialEq + Debug,
-{
+) -> Vec<B> {
     let len = input.len() / call.from * call.to;
     let ours = Outcome::of(len, state, |state, out| (call.ours)(input, state, out));
     let oracle = Outcome::of(len, state, |state, out| (call.oracle)(input, state, out));

@@ -1,7 +1,6 @@
 //! The encoder on all samples from one state, in one call of the proved `sweep_encode`: a call for each
 //! sample would make the exhaustive run longer.
 
-use crate::blocks::State;
 use crate::packed::{differ, oracles, sample_at, unpacked, Answers};
 use crate::parallel::each;
 use crate::report::Report;
@@ -55,17 +54,9 @@ impl Sweep<'_> {
     }
 }
 
-/// All samples from some states, so that every run tries what the exhaustive run is made of.
+/// A few hundred states, so that every run tries what the exhaustive run is made of.
 pub fn some(progress: bool) -> Report {
     let report = Report::start(progress, "sweep_encode");
-    each(states(), |(predictor, index)| {
-        Sweep::new(&report).state(predictor, index);
-    });
-    report
-}
-
-/// A few hundred states.
-pub fn states() -> impl Iterator<Item = State> + Send {
     let corners = [i16::MIN, -1, 0, i16::MAX]
         .into_iter()
         .flat_map(|predictor| [0, 1, 87, 88, 89, 255].map(|index| (predictor, index)));
@@ -74,5 +65,8 @@ pub fn states() -> impl Iterator<Item = State> + Send {
         let predictor = (number >> 8) as i32 - 32768;
         (predictor as i16, number as u8)
     });
-    corners.chain(spread)
+    each(corners.chain(spread), |(predictor, index)| {
+        Sweep::new(&report).state(predictor, index);
+    });
+    report
 }

@@ -59,11 +59,11 @@ pub fn encode_into(codec: Codec, samples: &[i16], coded: &mut Coded) {
             Codec::Alaw => law(run, bytes, ffi::encode_alaw),
             Codec::Ms(wide) => {
                 let states = (&mut predictors, &mut indices, &mut clipped);
-                ffi::encode_ms(wide, run, states, bytes, &mut 0)
+                ffi::encode_ms(wide, run, states, bytes)
             }
             Codec::Ima4 => {
                 let state = (&mut predictors[0], &mut indices[0], &mut clipped[0]);
-                ffi::encode_ima4(run, state, bytes, &mut 0)
+                ffi::encode_ima4(run, state, bytes)
             }
         });
     }

@@ -124,8 +124,7 @@ impl Rule {
 
     fn nibble(self, (mut predictor, mut index): State, sample: i16) -> u8 {
         if !self.has(QUOTIENT) {
-            let state = (&mut predictor, &mut index, &mut 0);
-            return ffi::encode_adpcm_ima(sample, state, &mut 0);
+            return ffi::encode_adpcm_ima(sample, (&mut predictor, &mut index, &mut 0));
         }
         let by = i32::from(sample) - i32::from(predictor);
         let magnitude = (4 * by.abs() / step(index)).min(7) as u8;

@@ -2,50 +2,43 @@
 use mathlib.Core.Path.{◌≡◌, refl, sym, ap, ap₂, ◌∙◌, subst}
 use mathlib.Core.Bool.{true}
 use mathlib.Core.List.{◌∷◌, []}
-use Prim.Native.Nat.{ℕ, suc, ◌+◌, ◌-◌, ◌*◌, ◌≤◌, ◌<◌, max}
+use Prim.Native.Nat.{◌+◌, ◌-◌, ◌*◌, ◌≤◌, ◌<◌}
 use native.Mathlib.Omega.{arith}
-use lib.IntN.{ℤ, pos}
+use lib.IntN.{pos}
 use lib.ListN.{length, get_or, set, take, length-set}
 use mir.Syntax.{w16}
 use mir.Val.{SFits}
 use mir.ValLaws.{to_z-of_z}
 use borrow.Author.Rules.{rules}
-use Rattle.num.specs.Distance.{distance}
 use Rattle.num.specs.Outcome.{outcome}
 use Rattle.ima_nibble.specs.Step.{sixteen, emitted}
 use Rattle.ima_nibble.specs.Table.{ima_steps}
 use Rattle.ima_step.specs.View.{wide_of}
-use Rattle.adpcm_ima.specs.View.{state_of}
 use Rattle.ima_nibble.specs.Series.{done, after}
-use Rattle.ima_nibble.specs.Miss.{largest_miss}
 use Rattle.ima_nibble.proofs.Bounds.{moved-lt, narrow_below}
-use Rattle.ima_nibble.proofs.Misses.{miss-lowered}
 use Rattle.ima4_block.specs.Block.{encoded_ima4_block}
 use Rattle.ima4_block.specs.Call.{finished, is_block, encode_ima4}
-use Rattle.ima4_block.specs.Miss.{encode_ima4_miss}
 use Rattle.ima4_block.proofs.Lengths.{failed, passed, blocks-are}
-use Rattle.ima4_block.proofs.Misses.{SoFar, one-missed, all-missed}
 use Rattle.ima4_block.proofs.Turn.{first_two, all, bytes_from, one_byte, no_bytes}
 use Rattle.ima4_encode.proofs.encode_adpcm_ima_ima4.Statement.{statement}
 use Rattle.ima4_encode.proofs.encode_adpcm_ima_ima4.Tie as tie
 
 abbrev invariant-loop : tie.invariant-loop
-invariant-loop samples out-buf₀ steps wide₀ miss₀ k₀ out-buf wide miss k =
+invariant-loop samples out-buf₀ steps wide₀ k₀ out-buf wide k =
     (after (take (k + 2) out-buf) (bytes_from ima_steps k (wide_of wide) samples) ≡ after (take 2 out-buf₀) (bytes_from ima_steps 0 (wide_of wide₀) samples))
-    × SoFar ima_steps samples (largest_miss sixteen ima_steps (wide_of wide₀) samples) (2 * k) (wide_of wide) miss
     × (length samples ≡ 64)
     × (length out-buf ≡ 34)
     × (k ≤ 32)
     × (wide.index < 256)
 
 abbrev decreases-loop : tie.decreases-loop
-decreases-loop samples out-buf₀ steps wide₀ miss₀ k₀ out-buf wide miss k = 32 - k
+decreases-loop samples out-buf₀ steps wide₀ k₀ out-buf wide k = 32 - k
 
 returns : tie.Need-returns invariant-loop decreases-loop
-unfolding encode_ima4 encode_ima4_miss
+unfolding encode_ima4
 returns c =
-    let (number, miss, state) = c.refuse.ensures in
-    rw (number, miss, state, sym c.before.before.is_Block.ensures ∙ failed c.before.before.is_Block.result c.before.if1.true) (refl, refl)
+    let is = c.refuse.ensures in
+    rw (is.0, is.1, sym c.before.before.is_Block.ensures ∙ failed c.before.before.is_Block.result c.before.if1.true) refl
 
 -- behind the test of the lengths
 taken : (c : tie.Else1 invariant-loop decreases-loop) → let a = c.before.before.before.args in is_block (length a.out-buf.now) (length a.samples.now) ≡ true
@@ -69,52 +62,32 @@ loop-holds c =
     let out = s.before.before.before.args.out-buf.now in
     let header = c.before.before.header_of.result in
     let size = length-set (set out 0 header.high) 1 header.low ∙ length-set out 0 header.high ∙ o in
-    (refl, omega arith, x, size, omega arith, c.widen.ensures.1)
+    (refl, x, size, omega arith, c.widen.ensures.1)
 
 loop-again : tie.Need-loop-preserved invariant-loop decreases-loop
 unfolding ima_steps
 loop-again c =
-    let at-missed = c.before in
-    let at_second = at-missed.before.before.before in
-    let at_first = at_second.before.before in
-    let at_x = at_first.before.before.before in
-    let test = at_x.before in
+    let at_second = c.before.before.before in
+    let at_first = at_second.before.before.before in
+    let test = at_first.before.before in
     let at = test.before in
     let inv = at.loop.invariant in
     let k = at.loop.k in
     let w = wide_of at.loop.wide in
     let out = at.loop.out-buf in
-    let start = at.before in
-    let samples = (tested start).before.before.before.args.samples.now in
-    let all = largest_miss sixteen ima_steps (wide_of start.widen.result) samples in
-    let low = at_first.encode-step in
-    let high = at_second.encode-step2 in
+    let samples = (tested at.before).before.before.before.args.samples.now in
+    let low = at_second.before.before.encode-step in
+    let high = c.before.before.encode-step2 in
     let h : k < 32 = test.loop-test.true in
     let (low-is, low_below, between) = low.ensures in
     let (high_is, high-below, behind) = high.ensures in
     let e : c.pack.result ≡ 16 * high.result.nibble + low.result.nibble = c.pack.ensures ∙ omega (arith, low_below, high-below) in
-    let f : SFits w16 (get_or samples (2 * k) (pos 0)) = search (rules, at_x.x.given) in
-    let g : SFits w16 (get_or samples (2 * k + 1) (pos 0)) = search (rules, at_first.before.before.y.given) in
-    let x-is = to_z-of_z w16 _ f in
-    let y-is = to_z-of_z w16 _ g in
+    let f : SFits w16 (get_or samples (2 * k) (pos 0)) = search (rules, at_first.encode-step-arg.given) in
+    let g : SFits w16 (get_or samples (2 * k + 1) (pos 0)) = search (rules, at_second.encode-step-arg2.given) in
     let v = wide_of low.result.next in
     let u = wide_of high.result.next in
-    let v-is = low-is ∙ ap (emitted sixteen ima_steps w) x-is in
-    let u-is = high_is ∙ ap (emitted sixteen ima_steps v) y-is in
-    let odd : 2 * k + 1 ≡ suc (2 * k) = omega arith in
-    let turn = one_byte ima_steps w v u samples out k low.result.nibble high.result.nibble v-is between u-is behind (omega (arith, inv)) (omega (arith, inv)) in
-    let missed-x = at-missed.before.larger-miss.ensures ∙ ap (λ (x : ℤ). max at.loop.miss (distance x v.predictor)) x-is in
-    let missed-y = at-missed.larger-miss2.ensures ∙ ap (λ (y : ℤ). max at-missed.before.larger-miss.result (distance y u.predictor)) (y-is ∙ ap (λ (i : ℕ). get_or samples i (pos 0)) odd) in
-    let seen-x = one-missed ima_steps samples all (2 * k) w v low.result.nibble _ _ (omega (arith, inv)) v-is between missed-x inv.1 in
-    let seen-y = one-missed ima_steps samples all (suc (2 * k)) v u high.result.nibble _ _ (omega (arith, inv)) (u-is ∙ ap (λ (i : ℕ). emitted sixteen ima_steps v (get_or samples i (pos 0))) odd) behind missed-y seen-x in
-    let two : suc (suc (2 * k)) ≡ 2 * (k + 1) = omega arith in (
-      rw e (turn ∙ inv.0),
-      subst (λ (i : ℕ). SoFar ima_steps samples all i u at-missed.larger-miss2.result) two seen-y,
-      inv.2,
-      length-set out (k + 2) c.pack.result ∙ inv.3,
-      omega (arith, h),
-      moved-lt ima_steps v u _ behind,
-    )
+    let turn = one_byte ima_steps w v u samples out k low.result.nibble high.result.nibble (low-is ∙ ap (emitted sixteen ima_steps w) (to_z-of_z w16 _ f)) between (high_is ∙ ap (emitted sixteen ima_steps v) (to_z-of_z w16 _ g)) behind (omega (arith, inv)) (omega (arith, inv)) in
+    (rw e (turn ∙ inv.0), inv.1, length-set out (k + 2) c.pack.result ∙ inv.2, omega (arith, h), moved-lt ima_steps v u _ behind)
 
 -- where the loop ends
 ends : (c : tie.After-loop invariant-loop decreases-loop) → let of = c.before.before in let s = tested of in
@@ -130,28 +103,25 @@ ends c =
     let header = at.before.before.before.header_of.result in
     let all-bytes = bytes_from ima_steps 0 (wide_of at.before.widen.result) a.samples.now in
     let whole = after (take 2 (set (set a.out-buf.now 0 header.high) 1 header.low)) all-bytes in
-    let last : at.loop.k ≡ 32 = omega (arith, c.loop-test.false, inv.4) in
-    sym (all out 34 w (omega (arith, inv.3)))
-    ∙ ap (after (take 34 out)) (sym (no_bytes ima_steps w a.samples.now inv.2))
+    let last : at.loop.k ≡ 32 = omega (arith, c.loop-test.false, inv.3) in
+    sym (all out 34 w (omega (arith, inv.2)))
+    ∙ ap (after (take 34 out)) (sym (no_bytes ima_steps w a.samples.now inv.1))
     ∙ subst (λ k. after (take (k + 2) out) (bytes_from ima_steps k w a.samples.now) ≡ whole) last inv.0
     ∙ ap (λ bs. after bs all-bytes) (first_two a.out-buf.now header.high header.low (omega (arith, (lengths s).0)))
 
 returns-2 : tie.Need-returns-2 invariant-loop decreases-loop
-unfolding encode_ima4 encoded_ima4_block encode_ima4_miss
+unfolding encode_ima4 encoded_ima4_block
 returns-2 c =
     let at = c.before.before in
     let s = tested at.before in
     let samples = s.before.before.before.args.samples.now in
     let from = at.before.widen.ensures.0 ∙ at.before.before.lowered-state.ensures in
-    let state = c.narrow.ensures ∙ narrow_below (wide_of at.loop.wide) at.loop.invariant.5 in
+    let state = c.narrow.ensures ∙ narrow_below (wide_of at.loop.wide) at.loop.invariant.4 in
     let block = ends c.before ∙ ap₂ (λ bs st. after bs (bytes_from ima_steps 0 st samples)) at.before.before.before.header_of.ensures from in
-    let inv = at.loop.invariant in
-    let last = all-missed ima_steps samples _ (2 * at.loop.k) (wide_of at.loop.wide) at.loop.miss (omega (arith, inv.2, c.before.loop-test.false)) inv.1 in
-    let miss = last ∙ ap (λ st. largest_miss sixteen ima_steps st samples) from ∙ miss-lowered sixteen ima_steps (state_of s.before.before.before.args.state) samples in
-    rw (taken s) (ap (λ st. outcome 0 st at.loop.out-buf) state ∙ ap finished block, miss)
+    rw (taken s) (ap (λ st. outcome 0 st at.loop.out-buf) state ∙ ap finished block)
 
 same_length : tie.Need-same-length invariant-loop decreases-loop
-same_length c = let at = c.before.before in at.loop.invariant.3 ∙ sym (lengths (tested at.before)).0
+same_length c = let at = c.before.before in at.loop.invariant.2 ∙ sym (lengths (tested at.before)).0
 
 pub encode-adpcm-ima-ima4-spec : {M : Type 1} → statement M
 encode-adpcm-ima-ima4-spec =
@@ -171,13 +141,11 @@ encode-adpcm-ima-ima4-spec =
     (λ c. search rules)
     (λ c. search rules)
     (λ c. search rules)
-    (λ c. search rules)
-    (λ c. search rules)
-    (λ c. search rules)
-    (λ c. search rules)
     (λ c κs. search rules)
-    (λ c κs. search rules)
-    (λ c κs. search rules)
+    (λ c. search rules)
+    (λ c. search rules)
+    (λ c. search rules)
+    (λ c. search rules)
     (λ c κs. search rules)
     (λ c κs. search rules)
     (λ c. search rules)

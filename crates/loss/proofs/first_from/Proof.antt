@@ -7,8 +7,7 @@ use mir.Syntax.{w16}
 use mir.Val.{SFits}
 use mir.ValLaws.{to_z-of_z}
 use borrow.Author.Rules.{rules}
-use Rattle.num.specs.Distance.{distance}
-use Rattle.loss.specs.Loss.{first_from}
+use Rattle.loss.specs.Loss.{distance, first_from}
 use Rattle.loss.specs.Private.{rest}
 use Rattle.loss.proofs.Places.{here, not-here, nowhere}
 use Rattle.loss.proofs.first_from.Statement.{statement}

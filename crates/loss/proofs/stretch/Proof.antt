@@ -8,7 +8,7 @@ use mir.Syntax.{w16}
 use mir.Val.{SFits}
 use mir.ValLaws.{to_z-of_z}
 use borrow.Author.Rules.{rules}
-use Rattle.num.specs.Distance.{distance}
+use Rattle.loss.specs.Loss.{distance}
 use Rattle.loss.proofs.Kept.{Kept, none, one_more, all}
 use Rattle.loss.proofs.stretch.Statement.{statement}
 use Rattle.loss.proofs.stretch.Tie as tie

@@ -10,7 +10,6 @@ use Rattle.ima_nibble.specs.Step.{State}
 use Rattle.ms_block.specs.Sizes.{ms_refusal}
 use Rattle.ms_block.specs.Block.{block_from, states_from}
 use Rattle.ms_block.specs.Call.{encode_ms}
-use Rattle.ms_block.specs.Miss.{miss_from, encode_ms_miss}
 use Rattle.ms_encode.proofs.encode_adpcm_ima_ms.Statement.{statement}
 use Rattle.ms_encode.proofs.encode_adpcm_ima_ms.Tie as tie
 
@@ -29,27 +28,23 @@ groups-requires c κs =
     )
 
 returns : tie.Need-returns
-unfolding encode_ms encode_ms_miss
+unfolding encode_ms
 returns c =
-    let called = c.before.before in
-    let headed = called.before.before.before.before in
-    let t = headed.before.before in
+    let t = c.before.before.before.before.before.before.before.before in
     let a = t.before.before.before.args in
-    let (number, ended, written, missed) = called.groups.ensures in
-    let starts = headed.heads.ensures.0 in
+    let groups = c.before.before.groups in
+    let starts = c.before.before.before.before.before.before.heads.ensures.0 in
     let samples = a.samples.now in
-    rw (taken t, number) (
-      ap₂ (outcome 0)
-          (ended ∙ ap (λ (s : List State). states_from a.channels s samples) starts)
-          (written ∙ ap (λ (s : List State). block_from a.channels s samples) starts),
-      missed ∙ ap (λ (s : List State). miss_from a.channels s samples) starts,
-    )
+    rw (taken t)
+    (ap₂ (outcome 0)
+    (groups.ensures.0 ∙ ap (λ (s : List State). states_from a.channels s samples) starts)
+    (groups.ensures.1 ∙ ap (λ (s : List State). block_from a.channels s samples) starts))
 
 returns-2 : tie.Need-returns-2
-unfolding encode_ms encode_ms_miss
+unfolding encode_ms
 returns-2 c =
     let number = c.before.refusal in
-    rw (sym number.ensures, ne_eqb number.result 0 c.if1.false) (refl, refl)
+    rw (sym number.ensures, ne_eqb number.result 0 c.if1.false) refl
 
 pub encode-adpcm-ima-ms-spec : {M : Type 1} → statement M
 encode-adpcm-ima-ms-spec =

@@ -2,7 +2,7 @@
 -- between the bytes the loops only pass on from whom to whom. The inner loops do not see the states that the block starts from, so theirs is an implication from any. Assumes nothing.
 use mathlib.Core.Path.{◌≡◌, refl, sym, ap, ap₂, ◌∙◌, subst}
 use mathlib.Core.List.{List, map}
-use Prim.Native.Nat.{ℕ, ◌+◌, ◌-◌, ◌*◌, ◌<◌, max}
+use Prim.Native.Nat.{ℕ, ◌+◌, ◌-◌, ◌*◌, ◌<◌}
 use native.Mathlib.Omega.{arith}
 use lib.IntN.{pos}
 use lib.ListN.{length, get_or, set, length-set, length-map}
@@ -17,7 +17,6 @@ use Rattle.adpcm_ima.specs.View.{state_of, zeroed}
 use Rattle.ima_step.specs.View.{wide_of}
 use Rattle.ima_nibble.proofs.Bounds.{moved-lt, narrow_below}
 use Rattle.ms_block.specs.Sizes.{most}
-use Rattle.ms_block.proofs.OwnSamples.{apart}
 use Rattle.ms_block.proofs.Sizes.{Shape, shape}
 use Rattle.ms_block.proofs.Walk.{Groups, Channels, Bytes, groups-first, channels-first, bytes-first, bytes_next, channels-next, groups-next, frames-first, frames-next, own, frame_is, room}
 use Rattle.ms_encode.proofs.Write.{Upto, first, byte-turn, ends}
@@ -25,8 +24,8 @@ use Rattle.ms_encode.proofs.groups.Statement.{statement}
 use Rattle.ms_encode.proofs.groups.Tie as tie
 
 abbrev invariant-loop2 : tie.invariant-loop2
-invariant-loop2 c samples out-buf₀ steps n states miss₀ at₀ g ch end wide₀ k₀ out-buf miss at wide k =
-    ((starts : List State) → Upto c samples starts at₀ out-buf₀ (set (map state_of states) ch (wide_of wide₀)) miss₀ → Upto c samples starts at out-buf (set (map state_of states) ch (wide_of wide)) miss)
+invariant-loop2 c samples out-buf₀ steps n states at₀ g ch end wide₀ k₀ out-buf at wide k =
+    ((starts : List State) → Upto c samples starts at₀ out-buf₀ (set (map state_of states) ch (wide_of wide₀)) → Upto c samples starts at out-buf (set (map state_of states) ch (wide_of wide)))
     × Bytes c n g ch at₀ end at
     × (length samples ≡ 2 * n - 7 * c)
     × (length out-buf ≡ n)
@@ -35,29 +34,29 @@ invariant-loop2 c samples out-buf₀ steps n states miss₀ at₀ g ch end wide�
     × (wide.index < 256)
 
 abbrev decreases-loop2 : tie.decreases-loop2
-decreases-loop2 c samples out-buf₀ steps n states miss₀ at₀ g ch end wide₀ k₀ out-buf miss at wide k = end - at
+decreases-loop2 c samples out-buf₀ steps n states at₀ g ch end wide₀ k₀ out-buf at wide k = end - at
 
 abbrev invariant-loop : tie.invariant-loop
-invariant-loop c samples out-buf₀ steps n states₀ miss₀ at₀ g ch₀ out-buf states miss at ch =
-    ((starts : List State) → Upto c samples starts at₀ out-buf₀ (map state_of states₀) miss₀ → Upto c samples starts at out-buf (map state_of states) miss)
+invariant-loop c samples out-buf₀ steps n states₀ at₀ g ch₀ out-buf states at ch =
+    ((starts : List State) → Upto c samples starts at₀ out-buf₀ (map state_of states₀) → Upto c samples starts at out-buf (map state_of states))
     × Channels c n g ch at
     × (length samples ≡ 2 * n - 7 * c)
     × (length out-buf ≡ n)
     × (length states ≡ most)
 
 abbrev decreases-loop : tie.decreases-loop
-decreases-loop c samples out-buf₀ steps n states₀ miss₀ at₀ g ch₀ out-buf states miss at ch = c - ch
+decreases-loop c samples out-buf₀ steps n states₀ at₀ g ch₀ out-buf states at ch = c - ch
 
 abbrev invariant-block : tie.invariant-block
-invariant-block c samples out-buf₀ steps n states₀ miss₀ at₀ g₀ out-buf states miss at g =
-    Upto c samples (map state_of states₀) at out-buf (map state_of states) miss
+invariant-block c samples out-buf₀ steps n states₀ at₀ g₀ out-buf states at g =
+    Upto c samples (map state_of states₀) at out-buf (map state_of states)
     × Groups c n g at
     × (length samples ≡ 2 * n - 7 * c)
     × (length out-buf ≡ n)
     × (length states ≡ most)
 
 abbrev decreases-block : tie.decreases-block
-decreases-block c samples out-buf₀ steps n states₀ miss₀ at₀ g₀ out-buf states miss at g = n - g
+decreases-block c samples out-buf₀ steps n states₀ at₀ g₀ out-buf states at g = n - g
 
 -- the lengths
 sizes : (c : tie.Start invariant-loop2 decreases-loop2 invariant-loop decreases-loop invariant-block decreases-block) → let a = c.args in Shape a.c (length a.out-buf.now) (length a.samples.now)
@@ -118,42 +117,41 @@ places c =
     let k-is = inv.5 ∙ ap (λ (f : ℕ). (begin loop).args.c * f + loop.loop.ch) (sym (frame_is inv.1 h)) in
     (k-is, omega (arith, k-is, room inv.1 h, inv.2), omega (arith, inv.2, inv.1.block.short))
 
-mul-x : tie.Need-overflow-mul-x invariant-loop2 decreases-loop2 invariant-loop decreases-loop invariant-block decreases-block
-mul-x c = omega (arith, places c)
+-- a byte's first step, from behind its second
+abbrev halfway : tie.After-pack invariant-loop2 decreases-loop2 invariant-loop decreases-loop invariant-block decreases-block → tie.After-encode-step invariant-loop2 decreases-loop2 invariant-loop decreases-loop invariant-block decreases-block
+halfway c = c.before.before.before.before.before
 
-shared-slice-copy-out-x : tie.Need-shared-slice-copy-out-x invariant-loop2 decreases-loop2 invariant-loop decreases-loop invariant-block decreases-block
-shared-slice-copy-out-x c = omega (arith, places c)
+-- the test of the loop, from behind a byte's first step
+abbrev tested : tie.After-encode-step invariant-loop2 decreases-loop2 invariant-loop decreases-loop invariant-block decreases-block → tie.In-loop2 invariant-loop2 decreases-loop2 invariant-loop decreases-loop invariant-block decreases-block
+tested c = c.before.before.before
 
-add-y : tie.Need-overflow-add-y invariant-loop2 decreases-loop2 invariant-loop decreases-loop invariant-block decreases-block
-add-y c = omega (arith, places c.before)
+mul-encode-step : tie.Need-overflow-mul-encode-step invariant-loop2 decreases-loop2 invariant-loop decreases-loop invariant-block decreases-block
+mul-encode-step c = omega (arith, places c.before)
 
-mul-y : tie.Need-overflow-mul-y invariant-loop2 decreases-loop2 invariant-loop decreases-loop invariant-block decreases-block
-mul-y c = omega (arith, places c.before)
+shared-slice-copy-out-encode-step : tie.Need-shared-slice-copy-out-encode-step invariant-loop2 decreases-loop2 invariant-loop decreases-loop invariant-block decreases-block
+shared-slice-copy-out-encode-step c = omega (arith, places c.before)
 
-shared-slice-copy-out-y : tie.Need-shared-slice-copy-out-y invariant-loop2 decreases-loop2 invariant-loop decreases-loop invariant-block decreases-block
-shared-slice-copy-out-y c = omega (arith, places c.before)
+add-encode-step : tie.Need-overflow-add-encode-step invariant-loop2 decreases-loop2 invariant-loop decreases-loop invariant-block decreases-block
+add-encode-step c = omega (arith, places (tested c.before))
 
--- a byte's two steps, from behind it
-abbrev second-step : tie.After-pack invariant-loop2 decreases-loop2 invariant-loop decreases-loop invariant-block decreases-block → tie.After-encode-step2 invariant-loop2 decreases-loop2 invariant-loop decreases-loop invariant-block decreases-block
-second-step c = c.before.before.before.before
+mul-encode-step-2 : tie.Need-overflow-mul-encode-step-2 invariant-loop2 decreases-loop2 invariant-loop decreases-loop invariant-block decreases-block
+mul-encode-step-2 c = omega (arith, places (tested c.before))
 
-abbrev first_step : tie.After-pack invariant-loop2 decreases-loop2 invariant-loop decreases-loop invariant-block decreases-block → tie.After-encode-step invariant-loop2 decreases-loop2 invariant-loop decreases-loop invariant-block decreases-block
-first_step c = (second-step c).before.before
-
--- the test of the loop
-abbrev tested : tie.After-pack invariant-loop2 decreases-loop2 invariant-loop decreases-loop invariant-block decreases-block → tie.In-loop2 invariant-loop2 decreases-loop2 invariant-loop decreases-loop invariant-block decreases-block
-tested c = (first_step c).before.before.before.before
+shared-slice-copy-out-encode-step-2 : tie.Need-shared-slice-copy-out-encode-step-2 invariant-loop2 decreases-loop2 invariant-loop decreases-loop invariant-block decreases-block
+shared-slice-copy-out-encode-step-2 c = omega (arith, places (tested c.before))
 
 add-k-3 : tie.Need-overflow-add-k-3 invariant-loop2 decreases-loop2 invariant-loop decreases-loop invariant-block decreases-block
-add-k-3 c = omega (arith, places (tested c))
+add-k-3 c = omega (arith, places (tested (halfway c)))
 
 loop2-less : tie.Need-loop2-smaller invariant-loop2 decreases-loop2 invariant-loop decreases-loop invariant-block decreases-block
-loop2-less c = omega (arith, (tested c).loop2-test.true)
+loop2-less c = omega (arith, (tested (halfway c)).loop2-test.taken)
 
 loop2-again : tie.Need-loop2-preserved invariant-loop2 decreases-loop2 invariant-loop decreases-loop invariant-block decreases-block
 unfolding ima_steps
 loop2-again c =
-    let test = tested c in
+    let at_second = c.before.before in
+    let at_first = halfway c in
+    let test = tested at_first in
     let at = test.before in
     let loop = outer at.before in
     let a = (begin loop).args in
@@ -166,23 +164,20 @@ loop2-again c =
     let samples = a.samples.now in
     let states = loop.loop.states in
     let w = wide_of at.loop2.wide in
-    let one = (first_step c).encode-step in
-    let two = (second-step c).encode-step2 in
-    let missed = c.before.before.larger-miss in
-    let read = (first_step c).before.before in
+    let one = at_first.encode-step in
+    let two = at_second.encode-step2 in
     let mid = wide_of one.result.next in
-    let f : SFits w16 (get_or samples k (pos 0)) = search (rules, read.before.x.given) in
-    let s : SFits w16 (get_or samples (k + a.c) (pos 0)) = search (rules, read.y.given) in
+    let f : SFits w16 (get_or samples k (pos 0)) = search (rules, at_first.before.encode-step-arg.given) in
+    let s : SFits w16 (get_or samples (k + a.c) (pos 0)) = search (rules, at_second.before.encode-step-arg2.given) in
     let x = to_z w16 (of_z w16 (get_or samples k (pos 0))) in
     let y = to_z w16 (of_z w16 (get_or samples (k + a.c) (pos 0))) in
     let one-is = one.ensures.2 ∙ ap (stepped sixteen ima_steps w) one.ensures.0 in
     let two_is = two.ensures.2 ∙ ap (stepped sixteen ima_steps mid) two.ensures.0 in
     let some : ch < length (map state_of states) = omega (arith, inv.1.channel, inv.1.block.few, length-map states state_of, inv.4) in
     let is = subst (Shape a.c (length a.out-buf.now)) (sym inv.2) inv.1.block in
-    let more-is = c.before.larger-miss2.ensures ∙ ap (λ (m : ℕ). max m (apart y (wide_of two.result.next))) missed.ensures in
     let b-is : c.pack.result ≡ 16 * two.result.nibble + one.result.nibble = c.pack.ensures ∙ omega (arith, one.ensures.1, two.ensures.1) in (
-      (λ starts u. byte-turn samples starts is inv.1 h k out (map state_of states) w mid (wide_of two.result.next) x y c.pack.result at.loop2.miss c.before.larger-miss2.result inv.3 some
-          (places test).0 (to_z-of_z w16 _ f) (to_z-of_z w16 _ s) one-is two_is (b-is ∙ ap₂ (λ (v u : ℕ). 16 * v + u) two.ensures.0 one.ensures.0) more-is (inv.0 starts u)),
+      (λ starts u. byte-turn samples starts is inv.1 h k out (map state_of states) w mid (wide_of two.result.next) x y c.pack.result inv.3 some
+          (places test).0 (to_z-of_z w16 _ f) (to_z-of_z w16 _ s) one-is two_is (b-is ∙ ap₂ (λ (v u : ℕ). 16 * v + u) two.ensures.0 one.ensures.0) (inv.0 starts u)),
       bytes_next g ch loop.loop.at at.before.before.before.lesser.result at.loop2.at inv.1 h,
       inv.2,
       length-set out at.loop2.at c.pack.result ∙ inv.3,
@@ -205,8 +200,8 @@ loop-again c =
     let st = c.narrow.ensures ∙ narrow_below (wide_of at.loop2.wide) inv.6 in
     let kept = map-kept state_of states ch zeroed ∙ ap (set (map state_of states) ch) (sym at.before.widen.ensures.0) in
     let back = ap (set (map state_of states) ch) (sym st) ∙ sym (map-set state_of states ch c.narrow.result) in (
-      (λ starts u. subst (λ (sts : List State). Upto a.c a.samples.now starts at.loop2.at at.loop2.out-buf sts at.loop2.miss) back
-          (inv.0 starts (subst (λ (sts : List State). Upto a.c a.samples.now starts loop.loop.at loop.loop.out-buf sts loop.loop.miss) kept (loop.loop.inv.0 starts u)))),
+      (λ starts u. subst (Upto a.c a.samples.now starts at.loop2.at at.loop2.out-buf) back
+          (inv.0 starts (subst (Upto a.c a.samples.now starts loop.loop.at loop.loop.out-buf) kept (loop.loop.inv.0 starts u)))),
       channels-next loop.before.block.g ch loop.loop.at at.before.before.before.lesser.result at.loop2.at inv.1 c.before.loop2-test.false,
       inv.2,
       inv.3,
@@ -238,10 +233,7 @@ returns c =
     let states = map state_of loop.loop.states in
     let is = subst (Shape a.c (length a.out-buf.now)) (sym inv.2) inv.1.block in
     let u = inv.0 starts loop.before.block.invariant.0 in
-    let upto : Upto a.c a.samples.now starts (length a.out-buf.now) loop.loop.out-buf states loop.loop.miss =
-    subst (λ (p : ℕ). Upto a.c a.samples.now starts p loop.loop.out-buf states loop.loop.miss) c.if1.true u in
-    let (ended, written, missed) = ends a.samples.now starts is loop.loop.out-buf states loop.loop.miss upto inv.3 (length-map loop.loop.states state_of ∙ inv.4) in
-    (refl, ended, written, missed)
+    ends a.samples.now starts is loop.loop.out-buf states (subst (λ (p : ℕ). Upto a.c a.samples.now starts p loop.loop.out-buf states) c.if1.true u) inv.3 (length-map loop.loop.states state_of ∙ inv.4)
 
 pub groups-spec : {M : Type 1} → statement M
 groups-spec =
@@ -266,14 +258,12 @@ groups-spec =
     (λ c. search rules)
     (λ c. search rules)
     loop2-holds
-    mul-x
-    shared-slice-copy-out-x
-    add-y
-    mul-y
-    shared-slice-copy-out-y
+    mul-encode-step
+    shared-slice-copy-out-encode-step
     (λ c κs. search rules)
-    (λ c κs. search rules)
-    (λ c κs. search rules)
+    add-encode-step
+    mul-encode-step-2
+    shared-slice-copy-out-encode-step-2
     (λ c κs. search rules)
     (λ c κs. search rules)
     (λ c. search rules)

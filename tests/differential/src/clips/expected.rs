@@ -1,11 +1,10 @@
-//! What our calls on runs and blocks are held to: the oracle for the number, for what is written, for the miss and
-//! for two numbers of a state, and the plain loop for the count. A refused call leaves all as it was. The plain loop has
+//! What our calls on runs and blocks are held to: the oracle for the number, for what is written and for two
+//! numbers of a state, and the plain loop for the count. A refused call leaves all as it was. The plain loop has
 //! the other two numbers as well, and they have to be the oracle's.
 
 use super::ours::States;
 use super::plain::{self, State};
-use crate::blocks::{self, oracle, Encoded, BYTES};
-use crate::misses::expected as misses;
+use crate::blocks::{self, oracle, BYTES};
 use crate::ms::block::oracle as ms_oracle;
 use crate::seek::calls::plain as seek_plain;
 
@@ -18,12 +17,12 @@ pub fn decode_run(bytes: &[u8], state: &mut State, samples: &mut [i16]) -> u8 {
     0
 }
 
-pub fn encode_run(samples: &[i16], state: &mut State, bytes: &mut [u8]) -> Encoded {
+pub fn encode_run(samples: &[i16], state: &mut State, bytes: &mut [u8]) -> u8 {
     let mut two = (state.0, state.1);
-    let answer = misses::encode_run(samples, &mut two, bytes);
+    oracle::encode(samples, &mut two, bytes);
     plain::encoded(bytes, state);
     agree(*state, two);
-    answer
+    0
 }
 
 pub fn index(bytes: &[u8], every: u8, state: &mut State, record: &mut [u8]) -> u8 {
@@ -75,16 +74,11 @@ pub fn decode_block(channels: u8, block: &[u8], clipped: &mut [u32; 8], samples:
 }
 
 /// The counts start where the states have them.
-pub fn encode_block(
-    channels: u8,
-    samples: &[i16],
-    states: &mut States,
-    block: &mut [u8],
-) -> Encoded {
+pub fn encode_block(channels: u8, samples: &[i16], states: &mut States, block: &mut [u8]) -> u8 {
     let mut two = states.map(|(predictor, index, _)| (predictor, index));
     let mut clipped = states.map(|(.., clipped)| clipped);
-    let answer = misses::encode_block(channels, samples, &mut two, block);
-    if answer.0 == 0 {
+    let number = ms_oracle::encode(channels, samples, &mut two, block);
+    if number == 0 {
         plain::block(channels, block, &mut clipped);
     }
     for (state, ((predictor, index), clipped)) in
@@ -92,7 +86,7 @@ pub fn encode_block(
     {
         *state = (predictor, index, clipped);
     }
-    answer
+    number
 }
 
 fn agree((predictor, index, _): State, two: blocks::State) {

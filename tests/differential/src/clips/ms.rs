@@ -3,11 +3,10 @@
 
 use super::ours::{self, States};
 use super::{expected, COUNTS};
-use crate::blocks::Encoded;
 use crate::ms::block::oracle::fitting;
 use crate::ms::block::{self, eight};
 use crate::ms::contents::{contents, states};
-use crate::ms::lengths::{self, sizes, CHANNELS, LONG, LONGEST};
+use crate::ms::lengths::{self, taken, CHANNELS, LONGEST};
 use crate::ms::readings::{each_block, each_length, head, REFUSED};
 use crate::ms::strict::refuses;
 use crate::outcome::Outcome;
@@ -19,13 +18,14 @@ use std::array;
 use std::fmt::Debug;
 
 type Decode = fn(u8, &[u8], &mut [u32; 8], &mut [i16]) -> u8;
-type Encode = fn(u8, &[i16], &mut States, &mut [u8]) -> Encoded;
+type Encode = fn(u8, &[i16], &mut States, &mut [u8]) -> u8;
 
+/// From here on a block is long. Of these only the longest are gone over, for they take longest.
+const LONG: usize = 60_000;
 /// What the counts are before a call that only writes them, for a refused one to leave.
 const LENT: [u32; 8] = [0x5a5a_5a5a; 8];
 
-/// Compared are the number, the encoder's miss, all that comes out, and the counts or the states of all eight
-/// channels.
+/// Compared are the number, all that comes out, and the counts or the states of all eight channels.
 pub fn reports(progress: bool) -> [Report; 3] {
     let encoded = Report::start(progress, "encode_ms clips");
     let decoded = Report::start(progress, "decode_ms clips");
@@ -45,6 +45,13 @@ pub fn reports(progress: bool) -> [Report; 3] {
         decode(&decoded, head(block), channels, block, len);
     });
     [encoded, decoded, unfitting(progress)]
+}
+
+/// The channel number and the length of each block that is taken, of the long ones the longest.
+fn sizes() -> impl Iterator<Item = (u8, usize)> {
+    let longest = |channels: u8, block| block + 4 * usize::from(channels) > 65_535;
+    let sizes = taken().into_iter();
+    sizes.filter(move |&(channels, block)| block < LONG || longest(channels, block))
 }
 
 /// Each channel has one of the counts, another one in the next turn.

@@ -6,8 +6,7 @@ use super::plain::{self, State};
 use super::{ours, COUNTS};
 use crate::domain::predictors;
 use crate::lent;
-use crate::misses::expected;
-use crate::nibble::Encoded;
+use crate::nibble::oracle;
 use crate::parallel::each;
 use crate::places::Places;
 use crate::report::{compare_each, Report};
@@ -31,7 +30,7 @@ pub fn decode(progress: bool) -> [Report; 2] {
     [over_c, in_place]
 }
 
-/// Compared are the nibble, the miss and all three numbers of the state.
+/// Compared are the nibble and all three numbers of the state.
 pub fn encode(progress: bool) -> [Report; 2] {
     let over_c = Report::start(progress, "encode_adpcm_ima clips");
     let in_place = Report::start(progress, "encode lent clips");
@@ -71,8 +70,8 @@ fn decoded((byte, mut state): (u8, State)) -> (i16, State) {
 }
 
 /// The nibble is the oracle's, and the step is the one that it makes.
-fn encoded((sample, mut state): (i16, State)) -> (Encoded, State) {
-    let (encoded, ..) = expected::encode((sample, state.0, state.1));
-    plain::step(encoded.0, &mut state);
-    (encoded, state)
+fn encoded((sample, mut state): (i16, State)) -> (u8, State) {
+    let (nibble, ..) = oracle::encode((sample, state.0, state.1));
+    plain::step(nibble, &mut state);
+    (nibble, state)
 }

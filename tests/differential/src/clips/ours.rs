@@ -1,9 +1,7 @@
 //! Our calls, with states that count.
 
 use super::plain::State;
-use crate::blocks::{told, Encoded};
 use crate::ffi;
-use crate::nibble::{self, UNTOLD};
 use std::array;
 
 /// Of eight channels.
@@ -16,18 +14,17 @@ pub fn decode(nibble: u8, (mut predictor, mut index, mut clipped): State) -> (i1
 }
 
 #[inline(always)]
-pub fn encode(sample: i16, mut state: State) -> (nibble::Encoded, State) {
-    let mut miss = UNTOLD;
-    let nibble = ffi::encode_adpcm_ima(sample, lent(&mut state), &mut miss);
-    ((nibble, miss), state)
+pub fn encode(sample: i16, (mut predictor, mut index, mut clipped): State) -> (u8, State) {
+    let nibble = ffi::encode_adpcm_ima(sample, (&mut predictor, &mut index, &mut clipped));
+    (nibble, (predictor, index, clipped))
 }
 
 pub fn decode_run(bytes: &[u8], state: &mut State, samples: &mut [i16]) -> u8 {
     ffi::decode_ima4(bytes, lent(state), samples)
 }
 
-pub fn encode_run(samples: &[i16], state: &mut State, bytes: &mut [u8]) -> Encoded {
-    told(|miss| ffi::encode_ima4(samples, lent(state), bytes, miss))
+pub fn encode_run(samples: &[i16], state: &mut State, bytes: &mut [u8]) -> u8 {
+    ffi::encode_ima4(samples, lent(state), bytes)
 }
 
 pub fn index(bytes: &[u8], every: u8, state: &mut State, record: &mut [u8]) -> u8 {
@@ -57,19 +54,14 @@ pub fn decode_block_leniently(
     ffi::decode_ms_lenient(channels, block, samples, clipped)
 }
 
-pub fn encode_block(
-    channels: u8,
-    samples: &[i16],
-    states: &mut States,
-    block: &mut [u8],
-) -> Encoded {
+pub fn encode_block(channels: u8, samples: &[i16], states: &mut States, block: &mut [u8]) -> u8 {
     let mut predictors = states.map(|(predictor, ..)| predictor);
     let mut indices = states.map(|(_, index, _)| index);
     let mut clipped = states.map(|(.., clipped)| clipped);
     let lent = (&mut predictors, &mut indices, &mut clipped);
-    let answer = told(|miss| ffi::encode_ms(channels, samples, lent, block, miss));
+    let number = ffi::encode_ms(channels, samples, lent, block);
     *states = array::from_fn(|place| (predictors[place], indices[place], clipped[place]));
-    answer
+    number
 }
 
 fn lent((predictor, index, clipped): &mut State) -> ffi::Lent<'_> {

@@ -3,8 +3,8 @@
 
 use super::plain::State;
 use super::{expected, ours, COUNTS};
-use crate::blocks::{self, Encoded, BYTES, MOST, SAMPLES};
-use crate::calls::{Call, REFUSED};
+use crate::blocks::{self, BYTES, MOST, SAMPLES};
+use crate::calls::Call;
 use crate::parallel::each;
 use crate::report::Report;
 use crate::runs::{both, contents, random, spoilt, STATES};
@@ -17,19 +17,17 @@ const DECODE: Call<u8, i16, State> = Call {
     oracle: expected::decode_run,
     from: BYTES,
     to: SAMPLES,
-    refusal: REFUSED,
 };
 
-const ENCODE: Call<i16, u8, State, Encoded> = Call {
+const ENCODE: Call<i16, u8, State> = Call {
     name: "encode",
     ours: ours::encode_run,
     oracle: expected::encode_run,
     from: SAMPLES,
     to: BYTES,
-    refusal: (REFUSED, 0),
 };
 
-/// Compared are the number, the encoder's miss, all that comes out, and all three numbers of the state.
+/// Compared are the number, all that comes out, and all three numbers of the state.
 pub fn reports(progress: bool) -> [Report; 5] {
     let encoded = Report::start(progress, "encode_ima4 clips");
     let decoded = Report::start(progress, "decode_ima4 clips");

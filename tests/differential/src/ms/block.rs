@@ -2,8 +2,8 @@
 //! number that is returned. That is 0 when all is done, 1 for a channel number and 2 for a length that is
 //! not taken. The encoder is lent the states of eight channels besides, of which a block uses as many as it
 //! has channels, from the first on. Repacking is lent a number that says whether any byte changed, 1 or 0.
-//! What ours counts of clipped steps is not looked at here, for the oracle does not count them. Nor does it tell a
-//! miss, as our encoder does. bench/ uses this file too.
+//! What ours counts of clipped steps is not looked at here, for the oracle does not count them. bench/ uses this
+//! file too.
 //!
 //! The oracle reads an index above 88 as 88. Our lenient calls do the same, and are held to it. The others
 //! are strict: they refuse such a block by 8.
@@ -33,7 +33,6 @@ pub fn interleaved(channels: &[Vec<i16>]) -> Vec<i16> {
 
 pub mod ours {
     use super::States;
-    use crate::blocks::{told, Encoded};
     use crate::ffi;
     use std::array;
 
@@ -48,13 +47,13 @@ pub mod ours {
     }
 
     #[inline(always)]
-    pub fn encode(channels: u8, samples: &[i16], states: &mut States, block: &mut [u8]) -> Encoded {
+    pub fn encode(channels: u8, samples: &[i16], states: &mut States, block: &mut [u8]) -> u8 {
         let mut predictors = states.map(|(predictor, _)| predictor);
         let mut indices = states.map(|(_, index)| index);
         let lent = (&mut predictors, &mut indices, &mut [0; 8]);
-        let answer = told(|miss| ffi::encode_ms(channels, samples, lent, block, miss));
+        let number = ffi::encode_ms(channels, samples, lent, block);
         *states = array::from_fn(|channel| (predictors[channel], indices[channel]));
-        answer
+        number
     }
 
     #[inline(always)]

@@ -1,15 +1,13 @@
 //! A call on an MS block, made by both sides and compared: the number, the buffer that is written with
-//! the room about it, and the encoder's states and its miss. The buffer that is read stays as it was.
+//! the room about it, and the encoder's states. The buffer that is read stays as it was.
 
 use super::block::{oracle, ours, States};
-use crate::blocks::Encoded;
-use crate::misses::expected;
 use crate::outcome::Outcome;
 use crate::report::Report;
 use std::fmt::Debug;
 
 pub type Decode = fn(u8, &[u8], &mut [i16]) -> u8;
-pub type Encode = fn(u8, &[i16], &mut States, &mut [u8]) -> Encoded;
+pub type Encode = fn(u8, &[i16], &mut States, &mut [u8]) -> u8;
 
 /// By lenient reading, as the oracle reads. The call is lent a buffer for so many samples.
 pub fn decode(report: &Report, name: impl Debug, channels: u8, block: &[u8], samples_len: usize) {
@@ -40,7 +38,7 @@ pub fn encode(
         })
     };
     let input = ("encode", channels, samples.len(), states, block_len, name);
-    let oracle = by(expected::encode_block);
+    let oracle = by(oracle::encode);
     by(ours::encode).compare(report, input, &oracle);
     assert!(samples == before, "a call wrote to what it reads");
     oracle.buffer().to_vec()

@@ -19,7 +19,7 @@ pub fn states() -> [States; 4] {
     ]
 }
 
-/// Compared are the number, the encoder's miss, all that comes out, and the states of all eight channels.
+/// Compared are the number, all that comes out, and the states of all eight channels.
 pub fn reports(progress: bool) -> [Report; 3] {
     let encoded = Report::start(progress, "encode_ms blocks");
     let decoded = Report::start(progress, "decode_ms blocks");

@@ -6,10 +6,9 @@
 use super::block::oracle::fitting;
 use super::block::{eight, oracle, ours, States};
 use super::both;
-use crate::blocks::{Encoded, State};
+use crate::blocks::State;
 use crate::domain;
 use crate::headers::{bodies, one, samples, window};
-use crate::misses::expected;
 use crate::parallel::each;
 use crate::report::Report;
 use crate::signal::Random;
@@ -43,7 +42,7 @@ fn decode_all<const BYTES: usize, const SAMPLES: usize>(
     report.compare::<_, (u8, (), [i16; SAMPLES])>(inputs, ours, oracle);
 }
 
-/// Compared are the number, the miss, all bytes and the states of all eight channels.
+/// Compared are the number, all bytes and the states of all eight channels.
 pub fn encode(progress: bool) -> Report {
     let report = Report::start(progress, "encode_ms headers");
     let pool = samples();
@@ -68,9 +67,8 @@ fn encode_all<const SAMPLES: usize, const BYTES: usize>(
     inputs: impl Iterator<Item = ([i16; SAMPLES], States)>,
 ) {
     let ours = one(|samples, states, block| ours::encode(channels, samples, states, block));
-    let oracle =
-        one(|samples, states, block| expected::encode_block(channels, samples, states, block));
-    report.compare::<_, (Encoded, States, [u8; BYTES])>(inputs, ours, oracle);
+    let oracle = one(|samples, states, block| oracle::encode(channels, samples, states, block));
+    report.compare::<_, (u8, States, [u8; BYTES])>(inputs, ours, oracle);
 }
 
 pub fn mono(index: u8) -> impl Iterator<Item = [State; 1]> {

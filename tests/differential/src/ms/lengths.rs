@@ -13,8 +13,6 @@ use std::collections::BTreeSet;
 
 /// No block is longer.
 pub const LONGEST: usize = 65_536 + 32;
-/// From here on a block is long.
-pub const LONG: usize = 60_000;
 /// Those that are taken, and some that are not. 9 and 10 are 1 and 2 to whoever looks at the low three bits.
 pub const CHANNELS: [u8; 13] = [0, 1, 2, 3, 4, 5, 6, 7, 8, 9, 10, 16, 255];
 /// Those of the first two channels, from which come the others. An index above the table stays as it was, too.
@@ -23,8 +21,8 @@ const STATES: [[State; 2]; 2] = [
     [(i16::MIN, 88), (12345, 0)],
 ];
 
-/// Each length of a block with several lengths of samples. Compared are the number, the encoder's miss, the buffer
-/// with the room about it, and the states of all eight channels.
+/// Each length of a block with several lengths of samples. Compared are the number, the buffer with the
+/// room about it, and the states of all eight channels.
 pub fn report(progress: bool) -> Report {
     let report = Report::start(progress, "ms lengths");
     let (bytes, noise) = (random(1, LONGEST), noise(1, 4 * LONGEST));
@@ -52,13 +50,6 @@ pub fn taken() -> Vec<(u8, usize)> {
     let all = all.flat_map(|block| (1..=8).map(move |channels| (channels, block)));
     all.filter(|&(channels, block)| takes(channels, block))
         .collect()
-}
-
-/// The same, but of the long blocks only the longest, for they take longest.
-pub fn sizes() -> impl Iterator<Item = (u8, usize)> {
-    let longest = |channels: u8, block| block + 4 * usize::from(channels) > 65_535;
-    let sizes = taken().into_iter();
-    sizes.filter(move |&(channels, block)| block < LONG || longest(channels, block))
 }
 
 /// All short lengths, those about some that are in use, and those about the longest of one channel and of two.

@@ -3,7 +3,6 @@
 use super::block::oracle::{self, fitting};
 use super::block::{eight, ours};
 use super::both::{Decode, Encode};
-use crate::misses::expected;
 
 /// A channel number, the length of a block and that of its samples, and the number with which both calls
 /// answer them.
@@ -99,7 +98,7 @@ pub fn hold() {
     let calls: [(Decode, Encode); 3] = [
         (ours::decode, ours::encode),
         (ours::decode_lenient, ours::encode),
-        (oracle::decode, expected::encode_block),
+        (oracle::decode, oracle::encode),
     ];
     for (decode, encode) in calls {
         for (channels, block, samples, number) in LENGTHS {
@@ -108,8 +107,7 @@ pub fn hold() {
             assert_eq!(decode(channels, &bytes, &mut numbers), number, "{pair:?}");
             let mut states = [(0, 0); 8];
             let answer = encode(channels, &numbers, &mut states, &mut bytes);
-            // of silence nothing is missed
-            assert_eq!(answer, (number, 0), "{pair:?}, encoded");
+            assert_eq!(answer, number, "{pair:?}, encoded");
         }
         three_samples(decode);
         raw_index(encode);
@@ -136,17 +134,16 @@ fn three_samples(decode: Decode) {
 }
 
 /// An index above the table is written as it is. Only a nibble lowers it, so that with one sample it comes
-/// back. So do the states that are not used. Headers alone miss nothing.
+/// back. So do the states that are not used.
 fn raw_index(encode: Encode) {
     let given = eight([(5, 200), (6, 201)]);
     let (mut states, mut block) = (given, [1; 4]);
-    assert_eq!(encode(1, &[-2], &mut states, &mut block), (0, 0));
+    assert_eq!(encode(1, &[-2], &mut states, &mut block), 0);
     assert_eq!(block, [0xfe, 0xff, 200, 0]);
     assert_eq!((states[0], &states[1..]), ((-2, 200), &given[1..]));
 
     let (mut states, mut block) = (given, [1; 12]);
-    let answer = encode(3, &[-2, -3, -4], &mut states, &mut block);
-    assert_eq!(answer, (0, 0));
+    assert_eq!(encode(3, &[-2, -3, -4], &mut states, &mut block), 0);
     assert_eq!(block[..6], [0xfe, 0xff, 200, 0, 0xfd, 0xff]);
     assert_eq!(block[6..], [201, 0, 0xfc, 0xff, 251, 0]);
     assert_eq!(states[..3], [(-2, 200), (-3, 201), (-4, 251)]);

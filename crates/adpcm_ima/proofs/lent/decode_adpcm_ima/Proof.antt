@@ -3,7 +3,7 @@ use mir.Syntax.{w8, w16}
 use contract.Monad.{fact_mono}
 use contract.Running.{tables_of}
 use Rattle.adpcm_ima.specs.declared.Decoded.{Decoded}
-use Rattle.adpcm_ima.proofs.InPlace.{Thin, unsigned, signed, number, in_place}
+use Rattle.adpcm_ima.proofs.InPlace.{Thin, unsigned, signed, in_place}
 use Rattle.adpcm_ima.specs.contracts.AdpcmImaState as State
 use Rattle.adpcm_ima.proofs.AdpcmImaState.TheLaws as laws
 use Rattle.adpcm_ima.specs.contracts.Decoded as Answer
@@ -22,11 +22,11 @@ thin = record {
   lowers = laws.lowers;
   pure = laws.the_plain;
   taken = unsigned w8;
-  given = number (signed w16);
+  given = signed w16;
   step = by_value.name;
   answer = (Answer.the_type).name;
   Answer = Decoded;
-  gives = λ r. r.sample;
+  number = λ r. r.sample;
   next = λ r. r.state;
   one = (Answer.the_type).to_one;
 }

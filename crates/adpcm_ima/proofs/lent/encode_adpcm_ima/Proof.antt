@@ -1,13 +1,11 @@
 -- `adpcm_ima::lent::encode_adpcm_ima` meets its contract: it is the step `AdpcmImaState::encode` on a state that is lent. Assumes nothing.
-use mir.Syntax.{w16}
+use mir.Syntax.{w8, w16}
 use contract.Monad.{fact_mono}
 use contract.Running.{tables_of}
 use Rattle.adpcm_ima.specs.declared.Encoded.{Encoded}
-use Rattle.adpcm_ima.proofs.InPlace.{Thin, signed, struct, in_place}
+use Rattle.adpcm_ima.proofs.InPlace.{Thin, unsigned, signed, in_place}
 use Rattle.adpcm_ima.specs.contracts.AdpcmImaState as State
 use Rattle.adpcm_ima.proofs.AdpcmImaState.TheLaws as laws
-use Rattle.adpcm_ima.specs.contracts.Emitted as Emitted
-use Rattle.adpcm_ima.proofs.Emitted.TheLaws as emitted-laws
 use Rattle.adpcm_ima.specs.contracts.Encoded as Answer
 use Rattle.adpcm_ima.specs.contracts.AdpcmImaState.encode as step
 use Rattle.adpcm_ima.proofs.AdpcmImaState.encode.Symbol as by_value
@@ -24,11 +22,11 @@ thin = record {
   lowers = laws.lowers;
   pure = laws.the_plain;
   taken = signed w16;
-  given = struct Emitted.the_type emitted-laws.the_laws emitted-laws.lowers emitted-laws.the_plain;
+  given = unsigned w8;
   step = by_value.name;
   answer = (Answer.the_type).name;
   Answer = Encoded;
-  gives = λ r. r.emitted;
+  number = λ r. r.nibble;
   next = λ r. r.state;
   one = (Answer.the_type).to_one;
 }
@@ -39,5 +37,5 @@ encode-adpcm-ima-spec 𝓤 𝓛 𝓜 𝓡 =
     in_place thin 𝓛 𝓜 𝓡 code.env key.name
     (λ s n r. step.ensures-1 𝓛 tt 𝓜.mem 𝓡.run s n (record { entry = s; exit = s }) (record { entry = n; exit = n }) r)
     (λ κs n s s' r. lent.ensures-1 𝓛 κs 𝓜.mem 𝓡.run n s (record { entry = n; exit = n }) (record { entry = s; exit = s' }) r)
-    (code.unfolded 𝓤 𝓛.H 𝓜 𝓡) (λ κs s n r. fact_mono 𝓤 _ _ (λ e. (e.0, e.1, e.2)))
+    (code.unfolded 𝓤 𝓛.H 𝓜 𝓡) (λ κs s n r. fact_mono 𝓤 _ _ (λ e. (e.0, e.1)))
     by_value.routine code.calls-adpcm-ima::AdpcmImaState::encode (known.met 𝓤 𝓛 𝓜 𝓡)

@@ -1,4 +1,4 @@
--- `num::distance` meets its contract: in 32 bits the lesser taken from the other is exact, and 16 bits hold it. Assumes nothing.
+-- `loss::distance` meets its contract: in 32 bits the lesser taken from the other is exact, and 16 bits hold it. Assumes nothing.
 use mathlib.Core.Path.{◌≡◌, refl, sym, ap, ◌∙◌, subst}
 use mathlib.Core.Bool.{true, false}
 use Prim.Native.Nat.{ℕ, zero, suc, ◌≤◌, ◌<◌}
@@ -9,10 +9,11 @@ use lib.Signed.{lt_z, non_neg}
 use mir.Syntax.{w16, w32}
 use mir.Val.{SFits, Fits, to_z, of_z}
 use borrow.Author.Tests.{ltb-true, ltb-false, lt-ltb, le-ltb}
-use Rattle.num.specs.Distance.{distance}
-use Rattle.num.proofs.Signed.{widens, compared, difference-is, difference-fits, casts, cast_is, distance-lt}
-use Rattle.num.proofs.distance.Statement.{statement}
-use Rattle.num.proofs.distance.Tie as tie
+use Rattle.num.proofs.Signed.{widens, compared, difference-is, difference-fits, casts, cast_is}
+use Rattle.loss.specs.Loss.{distance}
+use Rattle.loss.proofs.Places.{distance-lt}
+use Rattle.loss.proofs.distance.Statement.{statement}
+use Rattle.loss.proofs.distance.Tie as tie
 
 -- ---- the lesser of two numbers, taken from the other
 
