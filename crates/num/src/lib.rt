@@ -1,4 +1,5 @@
 // The small helpers that every codec shares, each defined for all of its inputs.
+#![tactic(auto)]
 ghost use Rattle.std.specs.Prelude.{◌≡◌, ◌-◌, min, max};
 ghost use Rattle.std.specs.Int.Signed.{mag};
 ghost use Rattle.num.specs.Clamp as Clamp;
@@ -57,6 +58,7 @@ pub fn clamp(lowest: i32, highest: i32, x: i32) -> i32
 }
 
 // Whether it is one of those that the clamp moves.
+#[tactic(auto, unfolding(crate::specs::Clamp::outside))]
 pub fn outside(lowest: i32, highest: i32, x: i32) -> bool
     ensures { result ≡ Clamp.outside lowest highest x }
 {

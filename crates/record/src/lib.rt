@@ -1,4 +1,5 @@
 // The record that the program `repack` reads.
+#![tactic(auto)]
 ghost use Rattle.std.specs.Prelude.{◌≡◌, ◌+◌, ◌*◌};
 ghost use Rattle.num.specs.Outcome.{outcome};
 ghost use Rattle.record.specs.Record.{well_formed, read_record};
