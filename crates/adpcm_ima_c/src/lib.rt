@@ -1,5 +1,6 @@
 // The two lent calls of one nibble as C has them: a static library for the comparison with the Rust.
 #![tactic(auto)]
+
 ghost use Rattle.std.specs.Prelude.{◌≡◌};
 ghost use Rattle.ima_nibble.specs.Step.{sixteen, stepped, emitted};
 ghost use Rattle.ima_nibble.specs.Table.{ima_steps};
