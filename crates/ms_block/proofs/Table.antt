@@ -1,7 +1,7 @@
 -- The scope's table of lengths and the one of two to eight channels, as equations of the general definitions.
 -- Block length n: mono 4 to 65,535; stereo 8 to 65,528, divisible by 8; samples 2n-7, 2n-14. Assumes nothing.
 use mathlib.Core.Path.{◌≡◌, refl, ap, ◌∙◌}
-use mathlib.Core.Bool.{Bool, true, false, ◌&&◌, ◌||◌, and-true, and-false, and-eq-true_iff}
+use mathlib.Core.Bool.{Bool, true, false, ◌&&◌, and-true, and-false, and-eq-true_iff}
 use mathlib.Core.Logic.{◌↔◌, inl, inr}
 use Prim.Native.Nat.{ℕ, ◌+◌, ◌-◌, ◌*◌, ◌/◌, ◌%◌, ◌≤◌}
 use native.Mathlib.Nat.{le_of_mul-le-mul_left}
