@@ -1,5 +1,6 @@
 // Text put into a buffer. Each call hands back the place behind its text; one whose text has no room hands back its own place, and leaves the buffer as it was.
 #![tactic(auto)]
+
 ghost use Rattle.std.specs.Prelude.{◌≡◌, ◌<◌};
 ghost use Rattle.text.specs.Text as Text;
 ghost use Rattle.text.specs.Text.{hex, decimal, put_in, place_after};
