@@ -1,4 +1,6 @@
 // Which step indices strict reading takes: 0 to 88, in the header of every channel used. The calls that read strictly ask here first.
+#![tactic(auto)]
+
 ghost use Rattle.std.specs.Prelude.{◌≡◌, get_or};
 ghost use Rattle.ms_block.specs.declared.Reading.TheVariants.{Strict};
 ghost use Rattle.ms_block.specs.Readings.{sound_headers, read_by};
