@@ -1,4 +1,5 @@
 // An MS block to samples, in lenient reading. Each channel starts from its header, so no state goes in or comes back; each counts its clipped steps from 0.
+#![tactic(auto)]
 ghost use Rattle.std.specs.Prelude.{◌≡◌, map, length};
 ghost use Rattle.num.specs.Outcome.{outcome};
 ghost use Rattle.ima_step.specs.View.{wide_of};
