@@ -13,9 +13,8 @@ help:
 	@echo 'make peers       ask other software, if it is installed, what it makes of the same bytes'
 	@echo 'make exhaustive  compare the proved library with the Rust on all inputs, for as long as it takes'
 
-# Of what rt says, a line for each crate; target/log/NAME.out has it all.
 demo:
-	@rt check repack | grep --line-buffered '^rt:'
+	@tools/program repack
 	@echo 'repack, of the record 00 07 01 01 F6 7F 00 00 07:'
 	@tools/run repack <tests/cases/repack/example/stdin
 
