@@ -1,4 +1,6 @@
 // The arithmetic of one nibble, as far as it takes all inputs: each function is a line or two of the definition.
+#![tactic(auto)]
+
 ghost use Rattle.std.specs.Prelude.{◌≡◌, cond, ◌*◌, ◌%◌, ◌≤◌, ◌<◌, eqb, pos, negsuc, nat_abs, ◌+ℤ◌, ◌-ℤ◌};
 ghost use Rattle.std.specs.Int.Signed.{mag};
 ghost use Rattle.num.specs.Clamp as Clamp;
