@@ -1,5 +1,5 @@
 -- What the definitions say of two samples, and of two runs: of one place and of those behind it, and of a stretch and of what is behind that. Assumes nothing.
-use mathlib.Core.Path.{◌≡◌, refl, sym, ap, ◌∙◌}
+use mathlib.Core.Path.{◌≡◌, refl, sym, ap, ap₂, ◌∙◌}
 use mathlib.Core.List.{List, [], ◌∷◌, ◌++◌}
 use mathlib.Core.Option.{Option, none, some}
 use Prim.Native.Nat.{ℕ, zero, suc, ◌+◌, ◌≤◌, ◌<◌, max}
@@ -10,7 +10,8 @@ use lib.IntN.{ℤ, pos}
 use lib.ListN.{length, get_or, take, drop, drop_of_length-le}
 use lib.Seq.{drop-cons}
 use mir.Syntax.{w16}
-use mir.Val.{SFits}
+use mir.Val.{SFits, to_z, of_z}
+use mir.ValLaws.{to_z-of_z}
 use borrow.Author.Tests.{le-leb, eq-eqb, ne_eqb}
 use borrow.Table.Steps.{cases}
 use Rattle.num.specs.Outcome.{outcome}
@@ -23,6 +24,10 @@ use Rattle.loss.specs.Private.{rest, Sees}
 -- 16 bits without a sign hold their difference
 pub distance-lt : {x y : ℤ} → SFits w16 x → SFits w16 y → distance x y < 65536
 distance-lt {x} {y} f g = omega (arith, apart-le x y, f.sfits, g.sfits)
+
+-- and it is that of the two as the machine reads them back
+pub distance-read : {x y : ℤ} → SFits w16 x → SFits w16 y → distance (to_z w16 (of_z w16 x)) (to_z w16 (of_z w16 y)) ≡ distance x y
+distance-read f g = ap₂ distance (to_z-of_z w16 _ f) (to_z-of_z w16 _ g)
 
 -- ---- differences, one list behind another
 

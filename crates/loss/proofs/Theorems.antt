@@ -14,7 +14,6 @@ use borrow.Table.Steps.{cases}
 use Rattle.num.specs.Lists.{All}
 use Rattle.num.specs.Outcome.{Outcome, outcome, Faithful}
 use Rattle.num.proofs.Lists.{all-at}
-use Rattle.loss.specs.declared.First.{First}
 use Rattle.loss.specs.declared.Loss.{Loss}
 use Rattle.loss.specs.declared.First.TheVariants.{At, Nowhere}
 use Rattle.loss.specs.Loss.{Report, place_of, distance, distances, count_of, first_from, largest, report, report_of, loss_report}

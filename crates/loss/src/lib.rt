@@ -1,5 +1,6 @@
 // The loss report of two sample runs.
 #![tactic(auto)]
+
 ghost use Rattle.std.specs.Prelude.{◌≡◌, ◌<◌, ◌≤◌, length};
 ghost use Rattle.num.specs.Outcome.{outcome};
 ghost use Rattle.loss.specs.Loss as Report;
