@@ -1,10 +1,10 @@
 -- A change is d, or d negated, and two nibbles one after the other. Assumes nothing.
-use mathlib.Core.Path.{◌≡◌, refl, sym, ap, ◌∙◌, subst}
+use mathlib.Core.Path.{◌≡◌, refl, ap, ◌∙◌}
 use mathlib.Core.Bool.{Bool, true, false, cond}
 use mathlib.Core.List.{List}
 use Prim.Native.Nat.{ℕ, ◌≤◌, min}
 use native.Mathlib.Omega.{arith}
-use lib.IntN.{ℤ, pos, negsuc, neg_ℤ, ◌+ℤ◌, ◌-ℤ◌}
+use lib.IntN.{ℤ, pos, neg_ℤ, ◌+ℤ◌, ◌-ℤ◌}
 use lib.ListN.{get_or}
 use Rattle.ima_nibble.proofs.Bounds.{index-le}
 use Rattle.ima_nibble.specs.Step.{State, state, sixteen, stepped, step_at, predicted, indexed, exact_sum, tallied, bit, d}

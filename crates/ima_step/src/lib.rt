@@ -1,4 +1,6 @@
 // One step of IMA ADPCM, as a block's loop calls it: the table lent, and a state that is wide inside. `decode_step` decodes a nibble, `encode_step` encodes a sample.
+#![tactic(auto)]
+
 mod nibble;
 mod sums;
 
