@@ -1,2 +1,1 @@
-pub mod InPlace
 pub mod View

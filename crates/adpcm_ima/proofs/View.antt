@@ -1,6 +1,6 @@
 -- The view of a state loses nothing, and `same_state` is equality. Assumes nothing.
 use mathlib.Core.Path.{◌≡◌, refl, ap, ap₂, ◌∙◌}
-use mathlib.Core.Bool.{true, false, ◌&&◌, false≢true, and-eq-true_iff}
+use mathlib.Core.Bool.{true, ◌&&◌, false≢true, and-eq-true_iff}
 use mathlib.Core.Logic.{◌↔◌}
 use Prim.Native.Nat.{ℕ}
 use lib.Dec.{eqb}

@@ -1,4 +1,6 @@
 // One nibble of IMA ADPCM, decoded and encoded. A state goes in by value, and the next one comes back; the two calls of `lent` are lent it.
+#![tactic(auto)]
+
 mod lent;
 
 ghost use Rattle.std.specs.Prelude.{◌≡◌, ◌<◌};
@@ -20,7 +22,7 @@ pub const IMA_STEP_TABLE: [u16; 89] = [
 
 // In the layout of C, for Rust lends it to the calls of `lent`.
 #[repr(C)]
-#[derive(Drop)]
+#[derive(Clone, Copy)]
 pub struct AdpcmImaState {
     pub predictor: i16,
     pub step_index: u8,

@@ -16,7 +16,7 @@ use sums::hold_both;
 
 // A predictor, an index that needs no widening before it is a place in the table, and the count of clipped steps. Any index is taken: one above 88 is
 // read as 88.
-#[derive(Drop)]
+#[derive(Clone, Copy)]
 pub struct Wide {
     pub predictor: i16,
     pub clipped: u32,
