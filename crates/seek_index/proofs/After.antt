@@ -10,7 +10,7 @@ use lib.Seq.{take_all, drop-drop}
 use borrow.Author.Tests.{leb-true, leb-false}
 use borrow.Table.Steps.{cases}
 use Rattle.num.specs.Lists.{from}
-use Rattle.num.proofs.Lists.{length_from, alike, whole}
+use Rattle.num.proofs.Lists.{length_from, alike}
 use Rattle.ima_nibble.specs.Step.{State}
 use Rattle.seek_index.specs.Call.{index_length}
 use Rattle.seek_index.specs.Private.{Room}

@@ -86,8 +86,9 @@ module _ (k : ℕ) (some : 1 ≤ k) (n : ℕ) (st : State) (inside : In sixteen 
   reaches new j h same b le =
       let a = k * (j / k) in
       let own = state_before st new a in
+      let on : State → State = λ kept. uncounted (state_before kept (drop (34 * a) new) (b - a)) in
       let any = ap (λ (r : Done ℤ). r.end) (run-bare (b - a) (uncounted own) own (drop (34 * a) new) refl) in
-      rw (every_back, read_back (j / k) (kept_at k some n j h), same) (any ∙ ap uncounted (onward st new a b le))
+      rw every_back (ap on (read_back (j / k) (kept_at k some n j h) ∙ ap uncounted same) ∙ any ∙ ap uncounted (onward st new a b le))
 
   -- It is decoding the rest from the state before block j, with a count that begins there;
   seeks : (j : ℕ) → j < n → decoded_from n (seek_index k n st bytes) bytes j ≡ decoded_run (n - j) (uncounted (state_before st bytes j)) (drop (34 * j) bytes)
