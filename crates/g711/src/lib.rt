@@ -1,5 +1,6 @@
 // The two companding laws of ITU-T G.711, with the Rust's names.
 #![tactic(auto)]
+
 mod alaw;
 mod ulaw;
 

@@ -30,6 +30,10 @@ module _ (input : List ℕ) where
       let (some, few) = (and-eq-true_iff (leb 2 n) (leb n 4098)).0 within in
       record { some = leb-true 2 n some; few = leb-true n 4098 few; whole = eqb-true (length input) (2 + n) whole; version = eqb-true (version_of input) 1 version }
 
+  -- it has four bytes
+  pub enough : well_formed input ≡ true → 4 ≤ length input
+  enough t = let is = formed t in omega (arith, is.some, is.whole)
+
   pub malformed : (Formed → ⊥) → well_formed input ≡ false
   malformed not_so = cases (well_formed input) (λ t. absurd (not_so (formed t))) (λ t. t)
 

@@ -1,5 +1,6 @@
 // The record that the program `repack` reads.
 #![tactic(auto)]
+
 ghost use Rattle.std.specs.Prelude.{◌≡◌, ◌+◌, ◌*◌};
 ghost use Rattle.num.specs.Outcome.{outcome};
 ghost use Rattle.record.specs.Record.{well_formed, read_record};
@@ -14,6 +15,7 @@ pub struct Record {
     pub length: usize,
 }
 
+#[tactic(auto, using(crate::proofs::Formed::enough))]
 pub fn read(input: &[u8], block: &mut [u8; 4096]) -> Record
     ensures { outcome result.refusal (result.channels, result.length) block.new ≡ read_record input.now block.old }
 {
@@ -35,6 +37,7 @@ pub fn read(input: &[u8], block: &mut [u8; 4096]) -> Record
 }
 
 // That four bytes are there is tested first; then a length below 2 is not that of the input.
+#[tactic(auto, unfolding(crate::specs::Record::well_formed))]
 fn well_formed(input: &[u8]) -> bool
     ensures { result ≡ well_formed input.now }
 {
