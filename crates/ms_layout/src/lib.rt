@@ -13,6 +13,7 @@ use num::{lesser, monus};
 pub const MOST: usize = 8;
 
 // 0 for done, 1 for a channel number that is not taken, and then 2 for lengths that are not.
+#[tactic(auto, unfolding(ms_block::specs::Sizes::ms_refusal))]
 pub fn refusal(channels: usize, bytes: usize, samples: usize) -> u8
     ensures { result ≡ ms_refusal channels bytes samples }
 {
