@@ -1,4 +1,6 @@
 // The encoder asked for every sample from one state, in one call: what a comparison on its whole domain calls.
+#![tactic(auto)]
+
 ghost use Rattle.std.specs.Prelude.{◌≡◌, ◌<◌, pos, nat_abs, ◌+ℤ◌};
 ghost use Rattle.std.proofs.Math.IntN.{sub_ℕ};
 ghost use Rattle.num.specs.Outcome.{outcome};
