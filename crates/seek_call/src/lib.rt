@@ -1,4 +1,6 @@
 // What the calls of a seek index take: the bytes of the run, k, the record, the block and the samples.
+#![tactic(auto)]
+
 ghost use Rattle.std.specs.Prelude.{◌≡◌, ◌+◌, ◌*◌, ◌≤◌};
 ghost use Rattle.seek_index.specs.Call.{are_run, is_every, index_length, is_index, index_refusal, place_refusal, from_refusal};
 
