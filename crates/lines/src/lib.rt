@@ -1,5 +1,6 @@
 // The lines that a program prints: a refusal, and what changed. Each stands at the start of the program's buffer.
 #![tactic(auto)]
+
 ghost use Rattle.std.specs.Prelude.{◌≡◌, ◌≤◌, length};
 ghost use Rattle.loss.specs.Loss.{place_of, report};
 ghost use Rattle.text.specs.Text as Text;

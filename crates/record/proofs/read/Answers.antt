@@ -8,12 +8,13 @@ use Rattle.record.proofs.read.Goals as goal
 pub returns-then-well_formed : goal.returns-then-well_formed
 unfolding read_record
 returns-then-well_formed c =
-    let a = c.args in
+    let input = c.args.input.now in
+    let out = c.args.block.now in
     let t = sym c.well_formed-2.ensures ∙ c.if-well_formed.true in
-    let is = formed a.input.now t in
-    let size : length a.block.now ≡ 4096 = search rules in
+    let is = formed input t in
+    let size : length out ≡ 4096 = search rules in
     let (place, buffer) = c.put-length.ensures in
-    rw t (ap₂ (λ (n : ℕ) (bs : List ℕ). outcome 0 (channels_of a.input.now, n) bs) (place ∙ part-place a.input.now is a.block.now size) (buffer ∙ part-put a.input.now is a.block.now size))
+    rw t (ap₂ (λ (n : ℕ) (bs : List ℕ). outcome 0 (channels_of input, n) bs) (place ∙ part-place input is out size) (buffer ∙ part-put input is out size))
 
 pub returns-else-well_formed : goal.returns-else-well_formed
 unfolding read_record

@@ -24,4 +24,4 @@ returns c =
     let a = c.args in
     let l = c.loop-i in
     let last : l.i ≡ length a.text.now = omega arith in
-    all-put a.out.now a.at a.text.now (omega arith) (a.at + length a.text.now) l.out refl (l.invariant.put ∙ ap (paste a.out.now a.at a.text.now) last)
+    all-put a.out.now a.at a.text.now (omega arith) _ l.out (omega arith) (l.invariant.put ∙ ap (paste a.out.now a.at a.text.now) last)

@@ -37,5 +37,5 @@ unfolding code_of four_bits
 returns c =
     let s = (goal.at.returns c).After-larger-segment in
     c.code_word.ensures
-    ∙ code_is _ c.ranges.linear _ _ 213
+    ∙ code_is _ c.ranges.linear _ _ _
     ∙ rw (c.larger.ensures, segment-is s, kept-is s)

@@ -11,7 +11,7 @@ use Rattle.g711.proofs.ulaw.encode_ulaw.Goals as goal
 use Rattle.g711.proofs.ulaw.encode_ulaw.Goals.{After-complement-inputval}
 
 -- a sum that is not clipped
-module _ (n : ℕ) (low : 33 ≤ n) (high : n ≤ 8191) where
+module _ (n : ℕ) (low : 32 ≤ n) (high : n ≤ 8191) where
   length-is : 32 - count_leading_zeros 32 n ≡ bit_length n
   length-is = not-leading 32 n (omega arith)
 
@@ -36,7 +36,7 @@ sum_is c = ap (λ (n : ℕ). n + 33) (c.complement-inputval.ensures ∙ shift_is
 pub returns-then-inputval-gt8191 : goal.returns-then-inputval-gt8191
 returns-then-inputval-gt8191 c =
     c.code_word.ensures
-    ∙ code_is _ c.ranges.linear 7 15 255
+    ∙ code_is _ c.ranges.linear _ _ _
     ∙ clipped-code c.args.linear _ (sum_is (goal.at.returns-then-inputval-gt8191 c).After-complement-inputval) (omega arith)
 
 pub overflow_sub-segment-2 : goal.overflow_sub-segment-2
@@ -48,5 +48,5 @@ code_word-requires-2 c = (eight _ (omega arith) (omega arith), omega arith, omeg
 pub returns : goal.returns
 returns c =
     c.code_word-2.ensures
-    ∙ code_is _ c.ranges.linear _ _ 255
+    ∙ code_is _ c.ranges.linear _ _ _
     ∙ coded c.args.linear _ (sum_is (goal.at.returns c).After-complement-inputval) (omega arith)
