@@ -1,18 +1,10 @@
 // A sample by both laws.
-use crate::print::print_signed;
-use libc::STDOUT_FILENO;
+use std::io;
 
-pub(crate) fn show(sample: i16) {
+pub(crate) fn show(rt: &impl Print, sample: i16) -> io::Result<()> {
     let mu = g711::encode_ulaw(sample);
     let a = g711::encode_alaw(sample);
-    print_signed(sample);
-    io::write_all(STDOUT_FILENO, b": mu_law 0x");
-    io::print_hex(STDOUT_FILENO, mu as u64, 2);
-    io::write_all(STDOUT_FILENO, b" is ");
-    print_signed(g711::decode_ulaw(mu));
-    io::write_all(STDOUT_FILENO, b", a_law 0x");
-    io::print_hex(STDOUT_FILENO, a as u64, 2);
-    io::write_all(STDOUT_FILENO, b" is ");
-    print_signed(g711::decode_alaw(a));
-    io::write_all(STDOUT_FILENO, b"\n");
+    let from_mu = g711::decode_ulaw(mu);
+    let from_a = g711::decode_alaw(a);
+    println!(rt; "{sample}: mu-law 0x{mu:02x} is {from_mu}, A-law 0x{a:02x} is {from_a}")
 }

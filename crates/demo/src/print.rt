@@ -1,12 +1,6 @@
 // Numbers in decimal.
-use libc::STDOUT_FILENO;
+use std::io;
 
-pub(crate) fn print_signed(x: i16) {
-    let size = num::complement(x) as u64;
-    if x < 0 {
-        io::write_all(STDOUT_FILENO, b"-");
-        io::print_decimal(STDOUT_FILENO, size + 1);
-    } else {
-        io::print_decimal(STDOUT_FILENO, size);
-    }
+pub(crate) fn print_signed(rt: &impl Print, x: i16) -> io::Result<()> {
+    rt.print(x)
 }

@@ -1,5 +1,7 @@
 // The numbers that the scope says to hold, in its order, each as the proved calls give it; the file stdout has them as they must be. Those
 // that are marked P are proved besides, as one table: the crate numbers_table.
+#![tactic(auto)]
+
 mod laws;
 mod lengths;
 mod mono;
@@ -8,10 +10,12 @@ mod say;
 mod state;
 mod zeros;
 
-fn main() {
-    nibbles::show();
-    mono::show();
-    laws::show();
-    zeros::show();
-    lengths::show();
+use std::io;
+
+fn main(rt: HostRuntime) -> io::Result<()> {
+    nibbles::show(&rt)?;
+    mono::show(&rt)?;
+    laws::show(&rt)?;
+    zeros::show(&rt)?;
+    lengths::show(&rt)
 }

@@ -1,27 +1,22 @@
 // Texts, and numbers with a text in front.
-use libc::STDOUT_FILENO;
+use std::io;
 
-pub(crate) fn text(text: &[u8]) {
-    io::write_all(STDOUT_FILENO, text);
+pub(crate) fn text(rt: &impl Print, text: &[u8]) -> io::Result<()> {
+    rt.write_all(text)
 }
 
-pub(crate) fn number(front: &[u8], n: u64) {
-    text(front);
-    io::print_decimal(STDOUT_FILENO, n);
+pub(crate) fn number(rt: &impl Print, front: &[u8], n: u64) -> io::Result<()> {
+    text(rt, front)?;
+    rt.print(n)
 }
 
-pub(crate) fn signed_number(front: &[u8], x: i16) {
-    let size = num::complement(x) as u64;
-    text(front);
-    if x < 0 {
-        number(b"-", size + 1);
-    } else {
-        number(b"", size);
-    }
+pub(crate) fn signed_number(rt: &impl Print, front: &[u8], x: i16) -> io::Result<()> {
+    text(rt, front)?;
+    rt.print(x)
 }
 
 // In two hexadecimal digits.
-pub(crate) fn byte(front: &[u8], b: u8) {
-    text(front);
-    io::print_hex(STDOUT_FILENO, b as u64, 2);
+pub(crate) fn byte(rt: &impl Print, front: &[u8], b: u8) -> io::Result<()> {
+    text(rt, front)?;
+    print!(rt; "{b:02x}")
 }

@@ -5,7 +5,6 @@ ghost use Rattle.std.specs.Prelude.{◌≡◌, ◌*◌, ◌<◌, length};
 
 use crate::answer::{Answer, unknown_call};
 use crate::state::{same_numbers, state_at};
-use check::same;
 use halves::from_halves;
 use ima4_decode::decode_adpcm_ima_ima4;
 use ima4_encode::encode_adpcm_ima_ima4;
@@ -57,7 +56,7 @@ fn check_encode(bytes: &[u8]) -> bool
     if e.refusal != 0 {
         return false;
     }
-    if same(&block, &bytes[132..166]) {
+    if block.as_slice() == &bytes[132..166] {
         same_numbers(e.state, after)
     } else {
         false

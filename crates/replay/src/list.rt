@@ -1,8 +1,6 @@
 // A line of the list: a comment, which begins with '#', or bytes in upper-case hex, one space apart.
 ghost use Rattle.std.specs.Prelude.{◌<◌, ◌≤◌, length};
 
-use bytes::scan::find;
-
 #[derive(Drop)]
 pub(crate) struct Line {
     pub(crate) is_call: bool,
@@ -37,8 +35,10 @@ fn next_line(text: &[u8], at: usize) -> usize
     requires { at < length text.now }
     ensures { (at < result) × (result ≤ length text.now) }
 {
-    let end = find(text, at, text.len(), b'\n');
-    if end < text.len() { end + 1 } else { end }
+    match text[at..].iter().position(|b| *b == b'\n') {
+        Some(n) => at + n + 1,
+        None => text.len(),
+    }
 }
 
 // Puts the line's bytes at the front of `bytes` and answers how many there are, or 0.
