@@ -1,4 +1,6 @@
 // The channels' states and their numbers, three arrays of which stand for them on the C side.
+#![tactic(auto)]
+
 ghost use Rattle.std.specs.Prelude.{◌≡◌, map};
 ghost use Rattle.adpcm_ima.specs.View.{state_of};
 ghost use Rattle.ms_block.specs.Block.{counts_of};
