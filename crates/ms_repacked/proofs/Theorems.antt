@@ -1,24 +1,23 @@
 -- Demand 3, of repacking: in either reading, for every block that it accepts. All rests on the law of reach and on the definitions of the two
 -- MS calls. Assumes nothing.
 use mathlib.Core.Path.{◌≡◌, refl, sym, ap, ◌∙◌, subst}
-use mathlib.Core.Bool.{Bool, true, false, cond, ◌&&◌, and-eq-true_iff}
+use mathlib.Core.Bool.{Bool, true, false, ◌&&◌, and-eq-true_iff}
 use mathlib.Core.List.{List, []}
 use mathlib.Core.Logic.{◌↔◌}
 use Prim.Native.Nat.{ℕ, ◌-◌, ◌/◌, ◌≤◌, ◌<◌}
-use lib.Dec.{eqb, ltb}
+use lib.Dec.{eqb}
 use lib.IntN.{ℤ}
 use lib.ListN.{length}
 use native.Mathlib.Omega.{arith}
 use borrow.Author.Tests.{eqb-true, eq-eqb}
-use borrow.Table.Steps.{cases}
-use Rattle.num.proofs.Lists.{all-at, all_from, length_from}
+use Rattle.num.proofs.Lists.{all-at}
 use Rattle.num.specs.Outcome.{Outcome, outcome}
 use Rattle.ima_nibble.specs.Step.{State, zero_state, lowered, sixteen}
 use Rattle.ms_block.specs.declared.Reading.{Reading}
 use Rattle.ms_block.specs.declared.Reading.TheVariants.{Lenient}
 use Rattle.ms_block.specs.Header.{head_of}
 use Rattle.ms_block.specs.Readings.{header_index, sound_headers, read_by}
-use Rattle.ms_block.specs.Sizes.{most, channelled, sized, samples_of, ms_refusal, repack_refusal, Taken}
+use Rattle.ms_block.specs.Sizes.{channelled, sized, samples_of, ms_refusal, repack_refusal, Taken}
 use Rattle.ms_block.proofs.Sizes.{Shape, shape, passed}
 use Rattle.ms_block.specs.Block.{bytes_in, samples_in, decoded_ms_block, state_in, begun_in}
 use Rattle.ms_block.specs.Call.{decode_ms}
@@ -28,8 +27,9 @@ use Rattle.ms_block.proofs.Readings.{sound-taken, not-refused, read_alike}
 use Rattle.ms_block.proofs.Theorems.{own-samples-alone, written-sound}
 use Rattle.ms_repacked.specs.Repack.{starts_of, repacked, any_change, repack_ms}
 use Rattle.ms_repacked.specs.Written.{Written, SameIndices}
-use Rattle.ms_repacked.proofs.Settled.{again, head-held, settled, same-channels, block_in, samples-shape, repacked-length, channel-again}
+use Rattle.ms_repacked.proofs.Settled.{again, settled, same-channels, samples-shape, repacked-length, channel-again}
 use Rattle.ms_repacked.proofs.Unlike.{alike, itself}
+use Rattle.ms_repacked.proofs.Written.{by-repacking}
 
 -- ---- of the definitions
 
@@ -41,26 +41,8 @@ allowed c n m t =
     let (size, long) = (and-eq-true_iff (sized c n) (eqb m n)).0 lengths in
     (rw (channels, size, eq-eqb (samples_of c n) (samples_of c n) refl) refl, eqb-true m n long)
 
-starts-held : (c : ℕ) (block : List ℕ) (e : ℕ) → (cond (ltb e c) (head_of (bytes_in c block e)) (state_in [] e)).index ≤ 88
-starts-held c block e = cases (ltb e c) (λ t. rw t (head-held (bytes_in c block e))) (λ t. rw t (omega arith))
-
 start_is : {c m : ℕ} (block : List ℕ) → Shape c (length block) m → (e : ℕ) → e < c → (state_in (starts_of c block) e).index ≡ lowered sixteen (header_index block e)
 start_is {c} block is e h = ap (λ (st : State). st.index) (in-each c [] (λ e. head_of (bytes_in c block e)) e h is.few ∙ head-is block is e h)
-
--- What repacking gives, the encoder could have written: from the samples and indices that it was written from.
-by-repacking : (c m : ℕ) (block : List ℕ) → Shape c (length block) m → Taken c (length block) m → Written c (repacked c block)
-unfolding repacked
-by-repacking c m block is taken =
-    let many = (samples-shape block is).fits ∙ sym is.fits in
-    record {
-      samples = decoded_ms_block c block;
-      states = starts_of c block;
-      within = block_in c block;
-      channels = length_from _ most 0;
-      indices = all_from _ (λ (st : State). st.index ≤ 88) (starts-held c block) most 0;
-      taken = rw (repacked-length block is, many) taken;
-      writes = refl;
-    }
 
 -- the index of a channel that the encoder could have started from
 held : {c : ℕ} {block : List ℕ} (w : Written c block) (e : ℕ) → (state_in w.states e).index ≤ 88
