@@ -1,4 +1,6 @@
 // The header of an ima4 block, from which a decoder starts the block and which an encoder writes.
+#![tactic(auto)]
+
 mod rule;
 
 ghost use Rattle.std.specs.Prelude.{◌≡◌, [], ◌∷◌};
@@ -17,6 +19,7 @@ pub struct Header {
 }
 
 // The decoder's own state, or that of the header.
+#[tactic(auto, unfolding(ima4_block::specs::Header::start_state))]
 pub fn start_state(own: AdpcmImaState, high: u8, low: u8) -> AdpcmImaState
     ensures { state_of result ≡ start_state (state_of own) high low }
 {
