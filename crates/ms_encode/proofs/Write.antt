@@ -3,11 +3,11 @@ use mathlib.Core.Path.{◌≡◌, refl, sym, ap, ap₂, ◌∙◌, subst}
 use mathlib.Core.List.{List}
 use Prim.Native.Nat.{ℕ, suc, ◌+◌, ◌-◌, ◌*◌, ◌/◌, ◌%◌, ◌≤◌, ◌<◌}
 use native.Mathlib.Omega.{arith}
-use lib.Dec.{ltb, eqb}
+use lib.Dec.{eqb}
 use lib.IntN.{ℤ, pos}
 use lib.ListN.{length, get_or, set, take, drop, length-drop, length-set}
 use lib.Seq.{get_or-set_same, get_or-set_other, set-set, take_all}
-use borrow.Author.Tests.{eqb-true, eqb-false, ltb-true, ltb-false}
+use borrow.Author.Tests.{eqb-true, eqb-false}
 use borrow.Table.Steps.{cases}
 use Rattle.halves.specs.Halves.{bits_of}
 use Rattle.num.proofs.Lists.{as-far, as_long}
@@ -16,7 +16,7 @@ use Rattle.ima_nibble.specs.Table.{ima_steps}
 use Rattle.ima_nibble.specs.Series.{encoded}
 use Rattle.ms_block.specs.Sizes.{most, bytes_of}
 use Rattle.ms_block.proofs.Sizes.{Shape, four_bytes, samples-each}
-use Rattle.ms_block.proofs.Weave.{singly, in_list, in-strand, strand-at, strand-length, woven-at}
+use Rattle.ms_block.proofs.Weave.{singly, in_list, strand-at, strand-length, woven-at}
 use Rattle.ms_block.specs.Block.{encoded_channel, samples_in, state_in, begun_in, begun, encoded_in, block_from, states_from, encoded_ms_block}
 use Rattle.ms_block.proofs.Midst.{byte, in_group, States, states-first, state-now, states-turn, states-last}
 use Rattle.ms_block.proofs.OwnSamples.{gives, moved, before, byte-is, next-is}

@@ -1,4 +1,6 @@
 // Samples to an MS block. The states go in by value, and come back in one array.
+#![tactic(auto)]
+
 ghost use Rattle.std.specs.Prelude.{◌≡◌, map, ◌*◌, length, take};
 ghost use Rattle.num.specs.Outcome.{outcome};
 ghost use Rattle.adpcm_ima.specs.View.{state_of};
