@@ -1,4 +1,6 @@
 // The lengths of ima4 blocks and runs that a call takes, and what it comes back with.
+#![tactic(auto)]
+
 mod answer;
 mod sizes;
 
