@@ -1,7 +1,9 @@
 -- The two tests are the definition's, and behind them what was seen of the places is what is reported. Assumes nothing.
 use Rattle.std.proofs.Common.{length, refl, arith}
 use mathlib.Core.Logic.{⊎_elim}
-use borrow.Author.Tests.{lt-leb, eq-eqb, ne_eqb}
+use lib.Dec.{eqb}
+use borrow.Author.Tests.{lt-leb, ne_eqb}
+use borrow.Table.Steps.{cases}
 use Rattle.loss.specs.Loss.{loss_report}
 use Rattle.loss.proofs.Places.{reports}
 use Rattle.loss.proofs.loss_report.Goals as goal
@@ -12,8 +14,8 @@ returns-then-n-after c =
     let n = length c.args.before.now in
     let m = length c.args.after.now in
     ⊎_elim
-    (λ other. rw (ne_eqb n m other) refl)
-    (λ more. rw (eq-eqb n m more.0, lt-leb n 131063 more.1) refl)
+    (λ other. rw (ne_eqb n m (λ e. omega arith)) refl)
+    (λ more. cases (eqb n m) (λ e. rw (e, lt-leb n 131063 (omega arith)) refl) (λ e. rw e refl))
     c.then-n-after.either
 
 pub returns : goal.returns
