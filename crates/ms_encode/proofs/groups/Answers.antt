@@ -44,10 +44,11 @@ loop-at-init c =
     let loop = c.loop-ch in
     let ch = loop.ch in
     let inv = loop.invariant in
+    let left : loop.at ≡ length c.args.out_buf.now → ⊥ = λ e. omega arith in
     let kept = map-kept state_of loop.states ch zeroed ∙ ap (set (map state_of loop.states) ch) (sym c.widen-wide.ensures.0) in
     record {
       written = subst (Upto c.args.c c.args.samples.now (map state_of c.args.starts) loop.at loop.out_buf) kept inv.written;
-      walk = bytes-first c.block.g ch loop.at c.lesser-end.result inv.walk c.loop-ch-test.true c.if-at-n.false c.lesser-end.ensures;
+      walk = bytes-first c.block.g ch loop.at c.lesser-end.result inv.walk c.loop-ch-test.true left c.lesser-end.ensures;
       samples = inv.samples;
       size = inv.size;
       some = inv.some;
@@ -125,4 +126,5 @@ returns c =
     let starts = map state_of a.starts in
     let states = map state_of loop.states in
     let is = subst (Shape a.c (length a.out_buf.now)) (sym inv.samples) inv.walk.block in
-    ends a.samples.now starts is loop.out_buf states (subst (λ (p : ℕ). Upto a.c a.samples.now starts p loop.out_buf states) c.if-at-n.true inv.written) inv.size (length-map loop.states state_of ∙ inv.some)
+    let all : loop.at ≡ length a.out_buf.now = omega arith in
+    ends a.samples.now starts is loop.out_buf states (subst (λ (p : ℕ). Upto a.c a.samples.now starts p loop.out_buf states) all inv.written) inv.size (length-map loop.states state_of ∙ inv.some)
