@@ -1,1 +1,2 @@
 pub mod Coincide
+pub mod Room

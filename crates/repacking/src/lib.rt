@@ -1,5 +1,7 @@
 // Repacking an MS block, in lenient reading: what decoding it and encoding the samples again would give. It goes channel by channel and nibble by
 // nibble, with a state that reads and one that writes, so that no samples are kept.
+#![tactic(auto)]
+
 ghost use Rattle.std.specs.Prelude.{◌≡◌, ◌+◌, ◌<◌, length};
 ghost use Rattle.num.specs.Outcome.{outcome};
 ghost use Rattle.adpcm_ima.specs.View.{state_of};
@@ -65,6 +67,7 @@ fn repack_channels(c: usize, block: &[u8], out: &mut [u8])
 }
 
 // One channel. What it reads and what it writes may part where a nibble cannot be reached.
+#[tactic(auto, using(crate::proofs::Room::of_byte))]
 fn channel(c: usize, ch: usize, block: &[u8], out: &mut [u8])
     requires { Alike c block.now out.old × (ch < c) × Upto c block.now ch 0 out.old }
     ensures { Upto c block.now (ch + 1) 0 out.new }
@@ -93,6 +96,7 @@ fn channel(c: usize, ch: usize, block: &[u8], out: &mut [u8])
 }
 
 // A channel's header, as an encoder writes it that starts where the decoder does.
+#[tactic(auto, using(crate::proofs::Room::of_header, std::proofs::lemmas::Grind::common_steps))]
 fn header(c: usize, ch: usize, block: &[u8], out: &mut [u8]) -> AdpcmImaState
     requires { Alike c block.now out.old × (ch < c) × Upto c block.now ch 0 out.old }
     ensures { (state_of result ≡ head_of (bytes_in c block.now ch)) × Upto c block.now ch 4 out.new }
