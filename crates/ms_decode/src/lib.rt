@@ -37,6 +37,7 @@ pub fn decode_adpcm_ima_ms_lenient(channels: u8, buf: &[u8], out_samples: &mut [
     }
 }
 
+#[tactic(auto, unfolding(num::specs::Lists::from, ms_block::specs::Block::no_counts))]
 pub fn refuse(refusal: u8) -> Answer
     ensures { (result.refusal ≡ refusal) × (result.clipped ≡ no_counts) }
 {

@@ -1,5 +1,6 @@
 // How an MS block is laid out: the channel numbers and lengths that a call takes, and the header of a channel.
 #![tactic(auto)]
+
 ghost use Rattle.std.specs.Prelude.{◌≡◌, ◌&&◌, ◌||◌, ◌*◌, ◌%◌, ◌≤◌, min, eqb};
 ghost use Rattle.adpcm_ima.specs.View.{state_of};
 ghost use Rattle.ms_block.specs.Header.{headed};
