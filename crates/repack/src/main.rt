@@ -23,7 +23,7 @@ fn read_full(input: &mut impl Read, buf: &mut [u8]) -> io::Result<usize>
     let mut done = 0;
     for _ in 0..u64::MAX {
         if done >= buf.len() {
-            return Ok(done);
+            return Ok(buf.len());
         }
         match input.read(&mut buf[done..]) {
             Ok(0) => return Ok(done),

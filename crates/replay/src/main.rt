@@ -42,7 +42,7 @@ fn read_full(file: &mut impl Read, buf: &mut [u8]) -> io::Result<usize>
     let mut done = 0;
     for _ in 0..u64::MAX {
         if done >= buf.len() {
-            return Ok(done);
+            return Ok(buf.len());
         }
         match file.read(&mut buf[done..]) {
             Ok(0) => return Ok(done),
