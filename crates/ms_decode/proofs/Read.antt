@@ -10,7 +10,6 @@ use lib.ListN.{length, get_or, set, drop, length-set, length-drop}
 use lib.Seq.{get_or-set_same, get_or-set_other, set-set, take_all}
 use borrow.Author.Tests.{ltb-true, ltb-false, eqb-true, eqb-false}
 use borrow.Table.Steps.{cases}
-use Rattle.num.specs.Lists.{from}
 use Rattle.num.proofs.Lists.{alike}
 use Rattle.ima_nibble.specs.Step.{State, zero_state, sixteen}
 use Rattle.ima_nibble.specs.Table.{ima_steps}

@@ -1,5 +1,6 @@
 // An MS block to samples, in lenient reading. Each channel starts from its header, so no state goes in or comes back; each counts its clipped steps from 0.
 #![tactic(auto)]
+
 ghost use Rattle.std.specs.Prelude.{◌≡◌, map, length};
 ghost use Rattle.num.specs.Outcome.{outcome};
 ghost use Rattle.ima_step.specs.View.{wide_of};
@@ -21,6 +22,7 @@ pub struct Answer {
     pub refusal: u8,
 }
 
+#[tactic(auto, unfolding(ms_block::specs::Call::decode_ms))]
 pub fn decode_adpcm_ima_ms_lenient(channels: u8, buf: &[u8], out_samples: &mut [i16]) -> Answer
     ensures { outcome result.refusal result.clipped out_samples.new ≡ decode_ms Lenient channels buf.now out_samples.old }
 {

@@ -10,7 +10,6 @@ use Rattle.ima_nibble.specs.Step.{state, sixteen, stepped}
 use Rattle.ima_nibble.specs.Table.{ima_steps}
 use Rattle.ima_step.specs.View.{wide_of, zero_wide}
 use Rattle.ima_step.proofs.Twice.{behind}
-use Rattle.ms_block.specs.Sizes.{most}
 use Rattle.ms_block.proofs.Sizes.{Shape, shape}
 use Rattle.ms_block.proofs.Walk.{Bytes, groups-first, bytes-first, bytes_next, channels-next, frames-first, frames-next, own, frame_is, room}
 use Rattle.ms_decode.proofs.Read.{Upto, first, byte-turn, ends}

@@ -12,7 +12,7 @@ invariant-loop-at l = record {
   place : Bytes l.c l.n l.g l.ch l.initial.at l.end l.at;
   long : length l.out_samples ≡ 2 * l.n - 7 * l.c;
   size : length l.wides ≡ most;
-  frame : l.k ≡ l.c * (8 * l.g + 1 + 2 * (l.at - l.initial.at)) + l.ch
+  frame : l.k ≡ l.c * (8 * l.g + 1 + 2 * (l.at - l.initial.at)) + l.ch;
 }
 
 abbrev pub decreases-loop-at : goal.decreases-loop-at
@@ -23,7 +23,7 @@ invariant-loop-ch l = record {
   upto : Upto l.c l.buf l.at l.out_samples (map wide_of l.wides);
   place : Channels l.c l.n l.g l.ch l.at;
   long : length l.out_samples ≡ 2 * l.n - 7 * l.c;
-  size : length l.wides ≡ most
+  size : length l.wides ≡ most;
 }
 
 abbrev pub decreases-loop-ch : goal.decreases-loop-ch
@@ -34,7 +34,7 @@ invariant-block l = record {
   upto : Upto l.c l.buf l.at l.out_samples (map wide_of l.wides);
   place : Groups l.c l.n l.g l.at;
   long : length l.out_samples ≡ 2 * l.n - 7 * l.c;
-  size : length l.wides ≡ most
+  size : length l.wides ≡ most;
 }
 
 abbrev pub decreases-block : goal.decreases-block

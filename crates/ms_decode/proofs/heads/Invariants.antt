@@ -12,7 +12,7 @@ invariant-loop-ch l = record {
   shape : Shape l.c (length l.buf) (length l.out_samples);
   same : length l.out_samples ≡ length l.initial.out_samples;
   size : length l.wides ≡ most;
-  inside : l.ch ≤ l.c
+  inside : l.ch ≤ l.c;
 }
 
 abbrev pub decreases-loop-ch : goal.decreases-loop-ch
