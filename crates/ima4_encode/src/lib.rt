@@ -1,4 +1,6 @@
 // Samples to ima4 blocks, one at a time and in runs. A state goes in by value and comes back.
+#![tactic(auto)]
+
 ghost use Rattle.std.specs.Prelude.{◌≡◌};
 ghost use Rattle.num.specs.Outcome.{outcome};
 ghost use Rattle.adpcm_ima.specs.View.{state_of};
