@@ -10,16 +10,16 @@ use Rattle.g711.proofs.Kept.{shift_is, code_is}
 use Rattle.g711.proofs.ulaw.encode_ulaw.Goals as goal
 use Rattle.g711.proofs.ulaw.encode_ulaw.Goals.{After-complement-inputval}
 
--- a sum that is not clipped
-module _ (n : ℕ) (low : 32 ≤ n) (high : n ≤ 8191) where
+-- a sum, and one that is not clipped
+module _ (n : ℕ) (fits : n < 2 ^ 32) where
   length-is : 32 - count_leading_zeros 32 n ≡ bit_length n
-  length-is = not-leading 32 n (omega arith)
+  length-is = not-leading 32 n fits
 
-  six : 6 ≤ 32 - count_leading_zeros 32 n
-  six = rw length-is (lt-length 5 n (omega arith))
+  six : 32 ≤ n → 6 ≤ 32 - count_leading_zeros 32 n
+  six h = rw length-is (lt-length 5 n (omega arith))
 
-  eight : 32 - count_leading_zeros 32 n - 6 < 8
-  eight = rw length-is (let l = length-le 13 n (omega arith) in omega arith)
+  eight : n ≤ 8191 → 32 - count_leading_zeros 32 n - 6 < 8
+  eight h = rw length-is (let l = length-le 13 n (omega arith) in omega arith)
 
 clipped-code : (x : ℤ) (n : ℕ) → n ≡ kept mu_law x → 8191 < n → bit_xor (joined x 7 15) 255 ≡ code_of mu_law x
 unfolding code_of segment four_bits
@@ -28,7 +28,7 @@ clipped-code x n e h = rw (lt-ltb 8191 (kept mu_law x) (rw e at h))
 coded : (x : ℤ) (n : ℕ) → n ≡ kept mu_law x → n ≤ 8191 → bit_xor (joined x (32 - count_leading_zeros 32 n - 6) (n / 2 ^ (32 - count_leading_zeros 32 n - 6 + 1) % 16)) 255 ≡ code_of mu_law x
 unfolding code_of segment four_bits
 coded x n e h =
-    rw (length-is n (omega arith) h, e, le-ltb 8191 (kept mu_law x) (rw e at h))
+    rw (length-is n (omega arith), e, le-ltb 8191 (kept mu_law x) (rw e at h))
 
 sum_is : (c : After-complement-inputval) → c.complement-inputval.result + 33 ≡ kept mu_law c.args.linear
 sum_is c = ap (λ (n : ℕ). n + 33) (c.complement-inputval.ensures ∙ shift_is _ c.ranges.linear 2)
