@@ -22,6 +22,10 @@ module _ (c : ℕ) (block : List ℕ) (small : Small c block) where
   pub samples-few : samples_of c (length block) ≤ 8185
   samples-few = omega (arith, small.1, (shape c (length block) (samples_of c (length block)) small.0).some)
 
+  -- an array of so many has room for them
+  pub room : (m k : ℕ) → m ≡ samples_of c (min (length block) 65536) → k ≡ 8185 → m ≤ k
+  room m k m-is k-is = omega (arith, m-is, k-is, samples-are, samples-few)
+
   decoded-many : length (decoded_ms_block c block) ≡ samples_of c (length block)
   decoded-many = (samples-shape block (shape c (length block) (samples_of c (length block)) small.0)).fits
 

@@ -1,4 +1,6 @@
 // What the programs `repack` and `repack_lenient` answer to a record, as the bytes that they print.
+#![tactic(auto)]
+
 ghost use Rattle.std.specs.Prelude.{◌≡◌, ◌≤◌, length, take};
 ghost use Rattle.num.specs.Outcome.{outcome};
 ghost use Rattle.ms_block.specs.Block.{decoded_ms_block};

@@ -1,5 +1,7 @@
 // The two calls that read an MS block, in strict reading, which is the default: a step index above 88 in a header refuses the block.
 // A block that is accepted is read as the lenient calls read it.
+#![tactic(auto)]
+
 ghost use Rattle.std.specs.Prelude.{◌≡◌};
 ghost use Rattle.num.specs.Outcome.{outcome};
 ghost use Rattle.ms_block.specs.declared.Reading.TheVariants.{Strict};
