@@ -1,4 +1,4 @@
--- The largest miss that an encoder hands back is the loss report's peak between the samples and what its bytes decode to. Assumes nothing.
+-- An encoder's largest miss is the loss report's peak between the samples and what its bytes decode to. Assumes nothing.
 use mathlib.Core.Path.{◌≡◌, refl, sym, ap, ap₂, ◌∙◌}
 use mathlib.Core.List.{List, [], ◌∷◌}
 use Prim.Native.Nat.{ℕ, zero, suc, ◌*◌, ◌/◌, ◌≤◌, ◌<◌, max}
