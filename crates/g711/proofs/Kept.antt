@@ -11,7 +11,7 @@ use mir.ValLaws.{to_z-of_z, sfits_le}
 use Rattle.num.specs.Bits.{digits_in, bit_length}
 use Rattle.g711.specs.Law.{mu_law, segment, four_bits, joined, code_of}
 
--- Complemented and not negated, -4 belongs to the mu_law code 0x7f.
+-- Complemented and not negated, -4 belongs to the mu-law code 0x7f.
 pub minus-four : code_of mu_law (negsuc 3) ≡ 0x7f
 unfolding code_of segment four_bits bit_length digits_in
 minus-four = refl

@@ -47,7 +47,7 @@ abbrev pub kept : Law → ℤ → ℕ
 kept mu_law x = mag (shr_z x (2 ^ dropped mu_law)) + 33
 kept a_law x = mag (shr_z x (2 ^ dropped a_law))
 
--- A mu_law sum above 8191 is clipped to segment 7 with all four bits set.
+-- A mu-law sum above 8191 is clipped to segment 7 with all four bits set.
 abbrev pub clipped : ℕ → Bool
 clipped sum = ltb 8191 sum
 

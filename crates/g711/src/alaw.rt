@@ -1,4 +1,4 @@
-// G.711 a_law.
+// G.711 A-law.
 ghost use Rattle.std.specs.Prelude.{◌≡◌};
 ghost use Rattle.g711.specs.Law.{a_law, sample_of, code_of};
 
@@ -27,14 +27,14 @@ const ALAW_VALUES: [i16; 256] = [
     784, 880, 848,
 ];
 
-// Decodes an 8-bit G.711 a_law value to a linear 16-bit signed sample.
+// Decodes an 8-bit G.711 A-law value to a linear 16-bit signed sample.
 pub fn decode_alaw(encoded: u8) -> i16
     ensures { result ≡ sample_of a_law encoded }
 {
     ALAW_VALUES[encoded as usize]
 }
 
-// Encodes a linear 16-bit signed sample to an 8-bit G.711 a_law value.
+// Encodes a linear 16-bit signed sample to an 8-bit G.711 A-law value.
 pub fn encode_alaw(linear: i16) -> u8
     ensures { result ≡ code_of a_law linear }
 {

@@ -1,4 +1,4 @@
-// G.711 mu_law.
+// G.711 mu-law.
 ghost use Rattle.std.specs.Prelude.{◌≡◌};
 ghost use Rattle.g711.specs.Law.{mu_law, sample_of, code_of};
 
@@ -26,14 +26,14 @@ const ULAW_VALUES: [i16; 256] = [
     196, 180, 164, 148, 132, 120, 112, 104, 96, 88, 80, 72, 64, 56, 48, 40, 32, 24, 16, 8, 0,
 ];
 
-// Decodes an 8-bit G.711 mu_law value to a linear 16-bit signed sample.
+// Decodes an 8-bit G.711 mu-law value to a linear 16-bit signed sample.
 pub fn decode_ulaw(encoded: u8) -> i16
     ensures { result ≡ sample_of mu_law encoded }
 {
     ULAW_VALUES[encoded as usize]
 }
 
-// Encodes a linear 16-bit signed sample to an 8-bit G.711 mu_law value.
+// Encodes a linear 16-bit signed sample to an 8-bit G.711 mu-law value.
 pub fn encode_ulaw(linear: i16) -> u8
     ensures { result ≡ code_of mu_law linear }
 {

@@ -75,7 +75,7 @@ numbers =
     -- mono `00 00 00 00 17` decodes to 0, 11, 17 and repacks to itself.
     decode_ms Strict 1 mono samples gives outcome 0 no_counts (pos 0 ∷ pos 11 ∷ pos 17 ∷ []) ∷
     repack_ms Strict 1 mono bytes gives outcome 0 false mono ∷
-    -- mu_law 0x7f decodes to 0, and 0 encodes to 0xff. a_law 0xd5 decodes to 8.
+    -- mu-law 0x7f decodes to 0, and 0 encodes to 0xff. A-law 0xd5 decodes to 8.
     sample_of mu_law 0x7f gives pos 0 ∷
     code_of mu_law (pos 0) gives 0xff ∷
     sample_of a_law 0xd5 gives pos 8 ∷
