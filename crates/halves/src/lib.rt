@@ -1,5 +1,6 @@
 // A number taken apart and put together: the two bytes of 16 bits, and the two nibbles of a byte.
 #![tactic(auto)]
+
 ghost use Rattle.std.specs.Prelude.{◌≡◌, ◌+◌, ◌*◌, ◌/◌, ◌%◌, ◌<◌};
 ghost use Rattle.halves.specs.Halves.{bits_of, from_halves};
 

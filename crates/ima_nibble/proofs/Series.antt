@@ -92,14 +92,14 @@ module _ (limits : Limits) (steps : List ℕ) where
   pub decoded-bare : (p : ℤ) (i n k : ℕ) (vs : List ℕ) → bare (dec (state p i n) vs) ≡ bare (dec (state p i k) vs)
   unfolding decoded stepped step_at
   decoded-bare p i n k [] = refl
-  decoded-bare p i n k (v ∷ vs) = 
+  decoded-bare p i n k (v ∷ vs) =
       let s = stepped limits steps (state p i n) v in
       ap (after (s.predictor ∷ [])) (decoded-bare s.predictor s.index s.clipped (stepped limits steps (state p i k) v).clipped vs)
 
   pub encoded-bare : (p : ℤ) (i n k : ℕ) (xs : List ℤ) → bare (enc (state p i n) xs) ≡ bare (enc (state p i k) xs)
   unfolding encoded stepped step_at
   encoded-bare p i n k [] = refl
-  encoded-bare p i n k (x ∷ xs) = 
+  encoded-bare p i n k (x ∷ xs) =
       let s = next (state p i n) x in
       ap (after (emitted limits steps (state p i k) x ∷ [])) (encoded-bare s.predictor s.index s.clipped (next (state p i k) x).clipped xs)
 

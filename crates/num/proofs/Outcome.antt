@@ -1,7 +1,7 @@
 -- One input has one outcome: a contract that equates a call's outcome with its definition leaves nothing open, if what comes back is looked at
 -- through a view that loses nothing. Assumes nothing.
 use mathlib.Core.Path.{◌≡◌, refl, sym, ap, ap₂, ◌∙◌}
-use mathlib.Core.List.{List, [], ◌∷◌, map, head-eq_of_cons-eq, tail-eq_of_cons-eq}
+use mathlib.Core.List.{[], ◌∷◌, map, head-eq_of_cons-eq, tail-eq_of_cons-eq}
 use Prim.Native.Nat.{ℕ}
 use native.Mathlib.Omega.{arith}
 use lib.Dec.{eqb}

@@ -1,7 +1,7 @@
 -- The order of two signed numbers and the limits of a third stay as they are when all move by the same amount, and the order turns round
 -- when all are negated, since a ≤ b says that b - a is not negative. Assumes nothing.
 use mathlib.Core.Path.{◌≡◌, refl, sym, ap, subst, ◌∙◌}
-use mathlib.Core.Bool.{Bool, true, false, not, cond, ◌||◌}
+use mathlib.Core.Bool.{Bool, true, false, not, cond}
 use Prim.Native.Nat.{ℕ, zero, suc, min}
 use native.Mathlib.Omega.{arith}
 use lib.Dec.{T, leb, ltb, leb-zero, leb-suc-zero, leb-suc-suc}

@@ -1,5 +1,6 @@
 // The small helpers that every codec shares, each defined for all of its inputs.
 #![tactic(auto)]
+
 ghost use Rattle.std.specs.Prelude.{◌≡◌, ◌-◌, min, max};
 ghost use Rattle.std.specs.Int.Signed.{mag};
 ghost use Rattle.num.specs.Clamp as Clamp;
