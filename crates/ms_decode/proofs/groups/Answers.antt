@@ -89,7 +89,7 @@ loop-at-preserved c =
           byte-turn a.c (omega (arith, w.channel)) a.buf.now w h k out wides wide between next x y
           (places w h k inv.frame).0 inv.long some refl next-is (to_z-of_z w16 _ f ∙ first-is) refl inv.upto;
       place = bytes_next g ch c.loop-ch.at c.lesser-end.result c.loop-at.at w h;
-      long = length-set (set out k x) (k + a.c) y ∙ length-set out k x ∙ inv.long;
+      long = length-set (set out k _) (k + a.c) _ ∙ length-set out k _ ∙ inv.long;
       size = inv.size;
       frame = frames-next a.c g ch c.loop-ch.at c.loop-at.at k w.begun inv.frame;
     }
