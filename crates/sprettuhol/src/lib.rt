@@ -1,4 +1,6 @@
 // The static library: the C interface, each function with its whole contract.
+#![tactic(auto)]
+
 ghost use Rattle.std.specs.Prelude.{◌≡◌, length};
 ghost use Rattle.num.specs.Outcome.{outcome};
 ghost use Rattle.ima_nibble.specs.Step.{state, sixteen, stepped, emitted};
@@ -317,6 +319,7 @@ fn tell_change(answer: Answer, changed: &mut u8) -> u8
 }
 
 // The loss report. Lengths that do not fit are refused by 2, and then nothing is stored.
+#[tactic(auto, unfolding(crate::specs::Loss::loss_call))]
 #[unsafe(no_mangle)]
 pub extern "C" fn spr_loss(
     before: &[i16],

@@ -1,0 +1,7 @@
+-- What is told of the block repacked is stored.
+use Rattle.ms_block.specs.declared.Reading.TheVariants.{Lenient}
+use Rattle.sprettuhol.proofs.Told.{told-change}
+use Rattle.sprettuhol.proofs.spr_repack_ms_lenient.Goals as goal
+
+pub returns : goal.returns
+returns c = told-change Lenient _ _ _ _ _ _ _ _ _ c.repack_adpcm_ima_ms_lenient.ensures c.tell_change.ensures
