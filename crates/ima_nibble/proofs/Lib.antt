@@ -1,6 +1,7 @@
 pub mod Bounds
 pub mod Bytes
 pub mod Counted
+pub mod Distance
 pub mod FourBits
 pub mod Fused
 pub mod Held

@@ -116,8 +116,3 @@ module _ (s : ℕ) (4≤s : 4 ≤ s) where
       let is : r ≡ part a s + g = omega arith in
       rw (is, left_is a s g g<, takes-is a s g g<, left_is b (s / 2) f f<, takes-is b (s / 2) f f<, takes-is c (s / 4) e e<)
       (shape v v<16)
-
-  -- a nibble of which m is 0 has no bit but its sign
-  pub empty : (v : ℕ) → v < 16 → m s v ≡ 0 → v ≡ part (bit 8 v) 8
-  unfolding m
-  empty v h z = omega (arith, finds 0 (omega arith) 0 (omega arith) (omega arith), finds v h 0 (omega arith) (omega arith))

@@ -38,5 +38,5 @@ entries n first last (x ∷ xs) t i h =
 
 -- Every step that a state can have, its index lowered, is from 7 to 32767.
 pub step-within : (st : State) → (7 ≤ step_at sixteen ima_steps st) × (step_at sixteen ima_steps st ≤ 32767)
-unfolding step_at
-step-within st = entries 89 7 32767 ima_steps table-rises (lowered sixteen st.index) (omega arith)
+unfolding step_at ima_steps
+step-within st = entries 89 7 32767 ima_steps refl (lowered sixteen st.index) (omega arith)
