@@ -55,7 +55,7 @@ loop-i-preserved c =
     let out₁ = set out (3 * i) c.high_half.result in
     let out₂ = set out₁ (3 * i + 1) c.low_half.result in
     record {
-      filled = one-state-more f m i c.high_half.result c.low_half.result loop.next.step_index out inv.size c.loop-i-test.true high low index inv.filled;
+      filled = one-state-more f m i c.high_half.result c.low_half.result loop.next.step_index out inv.size (omega arith) high low index inv.filled;
       before = next-kept st bytes k n i c.lesser-end.result (state_of loop.next) (state_of c.state_behind-next.result) pre.1 few c.lesser-end.ensures inv.before c.state_behind-next.ensures;
       size = length-set out₂ (3 * i + 2) loop.next.step_index ∙ length-set out₁ (3 * i + 1) c.low_half.result ∙ length-set out (3 * i) c.high_half.result ∙ inv.size;
       many = inv.many;
