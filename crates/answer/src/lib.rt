@@ -25,7 +25,7 @@ use text::{put, put_hex};
 // Puts the answer at the start of `out`, and says how long it is. That it is so long in `out` too follows; it is stated for `&out[..n]`.
 pub fn answer(reading: Reading, input: &[u8], out: &mut [u8; ROOM]) -> usize
     ensures stands { Stands out.old 0 (answer_to reading input.now) result out.new }
-    ensures upper_bound { (result ≤ length out.new) × (result ≡ length (take result out.new)) }
+    ensures within { (result ≤ length out.new) × (result ≡ length (take result out.new)) }
 {
     let mut block = zero_bytes();
     let record = read(input, &mut block);

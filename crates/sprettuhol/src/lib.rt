@@ -268,8 +268,8 @@ pub extern "C" fn spr_encode_ms(
     clipped: &mut [u32; MOST],
     block: &mut [u8],
 ) -> u8
-    ensures block_after { outcome result (states_of predictors.new step_indices.new clipped.new) block.new ≡ encode_ms channels samples.now (states_of predictors.old step_indices.old clipped.old) block.old }
-    ensures predictors_len { (length predictors.new ≡ most) × (length step_indices.new ≡ most) × (length clipped.new ≡ most) }
+    ensures encoded { outcome result (states_of predictors.new step_indices.new clipped.new) block.new ≡ encode_ms channels samples.now (states_of predictors.old step_indices.old clipped.old) block.old }
+    ensures lengths { (length predictors.new ≡ most) × (length step_indices.new ≡ most) × (length clipped.new ≡ most) }
 {
     let before = states_of(*predictors, *step_indices, *clipped);
     let encoded_block = encode_adpcm_ima_ms(channels, samples, before, block);

@@ -9,8 +9,8 @@ use Rattle.channels.specs.States.{states_of, predictors_of, indices_of}
 use Rattle.channels.proofs.Numbers.{numbers-back, numbers-length}
 use Rattle.sprettuhol.proofs.spr_encode_ms.Goals as goal
 
-pub returns-clause-block_after : goal.returns-clause-block_after
-returns-clause-block_after c =
+pub returns-clause-encoded : goal.returns-clause-encoded
+returns-clause-encoded c =
     let a = c.args in
     let call = c.encode_adpcm_ima_ms-encoded_block in
     let after = map state_of call.result.states in
