@@ -6,24 +6,25 @@ ghost use Rattle.halves.specs.Halves.{bits_of, from_halves};
 
 use num::complement;
 
-// The signed number that two bytes are, the high one first.
+// The number that two bytes are, the high one first.
+pub fn join(high: u8, low: u8) -> usize
+    ensures { result ≡ high * 256 + low }
+{
+    usize::from(u16::from_be_bytes([high, low]))
+}
+
+// The signed number that they are.
 pub fn from_halves(high: u8, low: u8) -> i16
     ensures { result ≡ from_halves high low }
 {
-    let bits = (high as u32) * 256 + (low as u32);
-    if high < 128 {
-        bits as i16
-    } else {
-        -1 - (65535 - bits) as i16
-    }
+    i16::from_be_bytes([high, low])
 }
 
 // The 16 bits of a signed number, two's complement.
 pub fn bits_of(x: i16) -> u32
     ensures { (result ≡ bits_of x) × (result < 65536) }
 {
-    let size = complement(x);
-    if x < 0 { 65535 - size } else { size }
+    u32::from(x.cast_unsigned())
 }
 
 // The lower of the two bytes that 16 bits are.

@@ -1,18 +1,20 @@
 // What a call comes back with.
-ghost use Rattle.std.specs.Prelude.{◌≡◌};
+ghost use Rattle.std.specs.Prelude.{◌≡◌, Err};
 ghost use Rattle.adpcm_ima.specs.View.{state_of};
+ghost use Rattle.refusal.specs.Refusal.{heard};
 
 use adpcm_ima::AdpcmImaState;
+use refusal::{Refusal, Refused};
 
-// `refusal` is 0 for done, or 3 for lengths that do not fit. A refusal hands the state back as it came, and leaves the buffer alone.
-#[derive(Drop)]
-pub struct Answer {
-    pub refusal: u8,
-    pub state: AdpcmImaState,
-}
+// The state behind what is done; or the refusal, with the state as it came.
+pub type Answer = Result<AdpcmImaState, Refused<AdpcmImaState>>;
 
+// For lengths that do not fit.
 pub fn refuse(state: AdpcmImaState) -> Answer
-    ensures { (result.refusal ≡ 3) × (state_of result.state ≡ state_of state) }
+    ensures { heard state_of result ≡ (3, state_of state) }
 {
-    Answer { refusal: 3, state }
+    Err(Refused {
+        refusal: Refusal::Blocks,
+        given: state,
+    })
 }

@@ -2,7 +2,7 @@
 #![tactic(auto)]
 
 ghost use Rattle.std.specs.Prelude.{◌≡◌};
-ghost use Rattle.num.specs.Outcome.{outcome};
+ghost use Rattle.refusal.specs.Refusal.{handed};
 ghost use Rattle.adpcm_ima.specs.View.{state_of};
 ghost use Rattle.ima4_block.specs.Call.{decode_ima4, decode_ima4_run};
 
@@ -13,15 +13,14 @@ use ima4_header::start_state;
 
 // One block, 34 bytes, to 64 samples.
 pub fn decode_adpcm_ima_ima4(buf: &[u8], state: AdpcmImaState, out_samples: &mut [i16]) -> Answer
-    ensures { outcome result.refusal (state_of result.state) out_samples.new ≡ decode_ima4 (state_of state) buf.now out_samples.old }
+    ensures { handed state_of result out_samples.new ≡ decode_ima4 (state_of state) buf.now out_samples.old }
 {
     if !is_block(buf.len(), out_samples.len()) {
         return refuse(state);
     }
     let steps = IMA_STEP_TABLE;
     let mut wide = start_state(state, buf[0], buf[1]).widen();
-    let mut k = 0;
-    while k < 32 {
+    for k in 0..32 {
         let byte = buf[k + 2];
         let index = wide.index_after(byte);
         let pair = wide.decode_byte(&steps, byte);
@@ -34,12 +33,8 @@ pub fn decode_adpcm_ima_ima4(buf: &[u8], state: AdpcmImaState, out_samples: &mut
         let second = pair.second;
         out_samples[2 * k] = first;
         out_samples[2 * k + 1] = second;
-        k += 1;
     }
-    Answer {
-        refusal: 0,
-        state: AdpcmImaState::narrow(wide),
-    }
+    Ok(AdpcmImaState::narrow(wide))
 }
 
 // 0 to 1,024 blocks, each lent onward, the state handed on.
@@ -48,25 +43,20 @@ pub fn decode_adpcm_ima_ima4_run(
     state: AdpcmImaState,
     out_samples: &mut [i16],
 ) -> Answer
-    ensures { outcome result.refusal (state_of result.state) out_samples.new ≡ decode_ima4_run (state_of state) buf.now out_samples.old }
+    ensures { handed state_of result out_samples.new ≡ decode_ima4_run (state_of state) buf.now out_samples.old }
 {
     if !is_run(buf.len(), out_samples.len()) {
         return refuse(state);
     }
     let n = buf.len() / 34;
     let mut next = state;
-    let mut i = 0;
-    while i < n {
-        let block = decode_adpcm_ima_ima4(
+    for i in 0..n {
+        next = decode_adpcm_ima_ima4(
             &buf[34 * i..34 * i + 34],
             next,
             &mut out_samples[64 * i..64 * i + 64],
-        );
-        next = block.state;
-        i += 1;
+        )
+        .unwrap();
     }
-    Answer {
-        refusal: 0,
-        state: next,
-    }
+    Ok(next)
 }

@@ -41,7 +41,6 @@ loop-k-preserved c =
       block = rw (to_z-of_z w16 _ f ∙ pair.ensures.0) (turn ∙ inv.block);
       bytes = inv.bytes;
       samples = search rules;
-      count = omega arith;
       index = moved-lt ima_steps between next (byte / 16) next-is;
     }
 

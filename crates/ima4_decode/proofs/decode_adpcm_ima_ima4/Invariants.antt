@@ -1,5 +1,5 @@
 -- What is written, and then what the bytes from the k-th on decode to, is what the whole block decodes to.
-use Rattle.std.proofs.Common.{◌≡◌, ◌*◌, ◌-◌, ◌≤◌, ◌<◌, length, take}
+use Rattle.std.proofs.Common.{◌≡◌, ◌*◌, ◌<◌, length, take}
 use Rattle.ima_nibble.specs.Series.{after}
 use Rattle.ima_nibble.specs.Table.{ima_steps}
 use Rattle.ima_step.specs.View.{wide_of}
@@ -11,9 +11,5 @@ invariant-loop-k l = record {
   block : after (take (2 * l.k) l.out_samples) (samples_from ima_steps l.k (wide_of l.wide) l.buf) ≡ samples_from ima_steps 0 (wide_of l.initial.wide) l.buf;
   bytes : length l.buf ≡ 34;
   samples : length l.out_samples ≡ 64;
-  count : l.k ≤ 32;
   index : l.wide.index < 256;
 }
-
-abbrev pub decreases-loop-k : goal.decreases-loop-k
-decreases-loop-k l = 32 - l.k

@@ -1,5 +1,6 @@
 -- A turn is the call on the next block, so what is written and then the run of the rest is the run. Assumes nothing.
-use Rattle.std.proofs.Common.{◌≡◌, ◌/◌, length, true, ap, arith, rules}
+use Rattle.std.proofs.Common.{◌≡◌, ◌∙◌, ◌/◌, length, true, ap, arith, rules}
+use Rattle.refusal.proofs.Done.{handed-done}
 use Rattle.adpcm_ima.specs.View.{state_of}
 use Rattle.ima4_block.specs.Block.{decoded_ima4_block}
 use Rattle.ima4_block.specs.Call.{finished, is_run, decode_ima4, decode_ima4_run}
@@ -21,20 +22,23 @@ loop-i-init c =
       few = omega arith;
       bytes = omega arith;
       samples = omega arith;
-      count = omega arith;
     }
+
+pub unwrap-next-requires : goal.unwrap-next-requires
+unwrap-next-requires c =
+    let call = c.decode_adpcm_ima_ima4 in
+    handed-done state_of _ _ call.result call.new.out_samples (call.ensures ∙ decodes _ _ _ (search rules) (search rules))
 
 pub loop-i-preserved : goal.loop-i-preserved
 loop-i-preserved c =
     let a = c.args in
     let inv = c.loop-i.invariant in
-    let call = c.decode_adpcm_ima_ima4-block in
+    let call = c.decode_adpcm_ima_ima4 in
     record {
-      ran = one_block decoded_ima4_block 34 64 decode_ima4 decodes (state_of a.state) a.buf.now _ c.loop-i.i (state_of c.loop-i.next) (state_of call.result.state) call.result.refusal c.loop-i.out_samples call.new.out_samples call.ensures (search rules) (omega arith) inv.bytes inv.samples inv.ran;
+      ran = one_block decoded_ima4_block 34 64 decode_ima4 decodes (state_of a.state) a.buf.now _ c.loop-i.i (state_of c.loop-i.next) (state_of c.unwrap-next.result) 0 c.loop-i.out_samples call.new.out_samples (rw c.unwrap-next.ensures at call.ensures) (search rules) (omega arith) inv.bytes inv.samples inv.ran;
       few = inv.few;
       bytes = inv.bytes;
       samples = search rules;
-      count = omega arith;
     }
 
 pub returns : goal.returns

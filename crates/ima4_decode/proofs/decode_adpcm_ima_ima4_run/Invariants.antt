@@ -1,5 +1,5 @@
 -- What the first i blocks come to is written.
-use Rattle.std.proofs.Common.{◌≡◌, ◌*◌, ◌-◌, ◌≤◌, length}
+use Rattle.std.proofs.Common.{◌≡◌, ◌*◌, ◌≤◌, length}
 use Rattle.adpcm_ima.specs.View.{state_of}
 use Rattle.ima4_block.specs.Block.{decoded_ima4_block}
 use Rattle.ima4_block.specs.Call.{decode_ima4}
@@ -13,8 +13,4 @@ invariant-loop-i l = record {
   few : l.n ≤ 1024;
   bytes : length l.buf ≡ 34 * l.n;
   samples : length l.out_samples ≡ 64 * l.n;
-  count : l.i ≤ l.n;
 }
-
-abbrev pub decreases-loop-i : goal.decreases-loop-i
-decreases-loop-i l = l.n - l.i
