@@ -6,7 +6,7 @@ use Rattle.num.specs.Outcome.{outcome}
 use Rattle.refusal.specs.declared.Refused.{Refused}
 use Rattle.refusal.specs.Refusal.{hears, handed}
 
-pub hears-handed : {X Back Buffer : Type 0} (view : X → Back) (answer : Result X (Refused X)) (both : ℕ × X) (buffer : Buffer)
+pub as_heard : {X Back Buffer : Type 0} (view : X → Back) (answer : Result X (Refused X)) (both : ℕ × X) (buffer : Buffer)
     → both ≡ hears (λ x. x) answer → outcome both.0 (view both.1) buffer ≡ handed view answer buffer
-hears-handed view (Ok x) both buffer is = ap (λ b. outcome b.0 (view b.1) buffer) is
-hears-handed view (Err refused) both buffer is = ap (λ b. outcome b.0 (view b.1) buffer) is
+as_heard view (Ok x) both buffer is = ap (λ b. outcome b.0 (view b.1) buffer) is
+as_heard view (Err refused) both buffer is = ap (λ b. outcome b.0 (view b.1) buffer) is
