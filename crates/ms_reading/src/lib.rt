@@ -22,7 +22,7 @@ pub fn check_headers(reading: Reading, channels: u8, block: &[u8]) -> Result<(),
 fn sound_headers(channels: u8, block: &[u8]) -> bool
     ensures { result ≡ sound_headers channels block.now }
 {
-    (0..usize::from(channels)).all(|ch| byte_at(block, 4 * ch + 2) <= 88)
+    (0..channels as usize).all(|ch| byte_at(block, 4 * ch + 2) <= 88)
 }
 
 // The byte at a place, or 0 behind the end.
