@@ -16,8 +16,8 @@ use ms_layout::{MOST, check, head};
 use ms_reading::check_headers;
 use refusal::Refusal;
 
-#[tactic(auto, using(ms_reading::proofs::Refused::by_lengths, ms_reading::proofs::Refused::by_headers, ms_reading::proofs::Refused::by_none), unfolding(ms_block::specs::Call::decode_ms))]
 // What comes back is the count of each channel. The headers are asked about after the lengths, and a refusal leaves the buffer alone.
+#[tactic(auto, using(ms_reading::proofs::Refused::by_lengths, ms_reading::proofs::Refused::by_headers, ms_reading::proofs::Refused::by_none), unfolding(ms_block::specs::Call::decode_ms))]
 pub fn decode_adpcm_ima_ms(
     reading: Reading,
     channels: u8,

@@ -1,11 +1,10 @@
 -- A call that reads a block in either reading, and answers by its lengths and then by its headers. Assumes nothing.
-use mathlib.Core.Path.{◌≡◌, refl, sym, ap, ◌∙◌}
+use mathlib.Core.Path.{◌≡◌, sym, ap, ◌∙◌}
 use mathlib.Core.List.{List}
 use Prim.Native.Nat.{ℕ}
-use Rattle.std.specs.Prelude.{Err}
 use Rattle.num.specs.Outcome.{outcome, outcome_by}
 use Rattle.refusal.specs.declared.Refusal.{Refusal}
-use Rattle.refusal.specs.Refusal.{number_of, answered}
+use Rattle.refusal.specs.Refusal.{number_of}
 use Rattle.refusal.proofs.Numbers.{number-not-0, refuses}
 use Rattle.ms_block.specs.declared.Reading.{Reading}
 use Rattle.ms_block.specs.Readings.{read_by}
