@@ -12,6 +12,7 @@ use ima4_call::{Answer, is_block, is_run, refuse};
 use ima4_header::start_state;
 
 // One block, 34 bytes, to 64 samples.
+#[tactic(auto, unfolding(ima4_block::specs::Call::decode_ima4))]
 pub fn decode_adpcm_ima_ima4(buf: &[u8], state: AdpcmImaState, out_samples: &mut [i16]) -> Answer
     ensures { handed state_of result out_samples.new ≡ decode_ima4 (state_of state) buf.now out_samples.old }
 {
@@ -38,6 +39,7 @@ pub fn decode_adpcm_ima_ima4(buf: &[u8], state: AdpcmImaState, out_samples: &mut
 }
 
 // 0 to 1,024 blocks, each lent onward, the state handed on.
+#[tactic(auto, unfolding(ima4_block::specs::Call::decode_ima4_run))]
 pub fn decode_adpcm_ima_ima4_run(
     buf: &[u8],
     state: AdpcmImaState,
