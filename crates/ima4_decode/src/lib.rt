@@ -20,7 +20,7 @@ pub fn decode_adpcm_ima_ima4(buf: &[u8], state: AdpcmImaState, out_samples: &mut
         return refuse(state);
     }
     let steps = IMA_STEP_TABLE;
-    let mut wide = start_state(state, buf[0], buf[1]).widen();
+    let mut wide = Wide::from(start_state(state, buf[0], buf[1]));
     for k in 0..32 {
         let byte = buf[k + 2];
         let index = wide.index_after(byte);

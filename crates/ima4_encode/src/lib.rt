@@ -8,6 +8,7 @@ ghost use Rattle.ima4_block.specs.Call.{encode_ima4, encode_ima4_run};
 
 use adpcm_ima::{AdpcmImaState, IMA_STEP_TABLE};
 use halves::pack;
+use ima_step::Wide;
 use ima4_call::{Answer, is_block, is_run, refuse};
 use ima4_header::{header_of, lowered_state};
 
@@ -21,7 +22,7 @@ pub fn encode_adpcm_ima_ima4(samples: &[i16], state: AdpcmImaState, out_buf: &mu
     }
     out_buf[..2].copy_from_slice(&header_of(state));
     let steps = IMA_STEP_TABLE;
-    let mut wide = lowered_state(state).widen();
+    let mut wide = Wide::from(lowered_state(state));
     for k in 0..32 {
         let low = wide.encode_step(&steps, samples[2 * k]);
         let high = low.next.encode_step(&steps, samples[2 * k + 1]);
