@@ -64,6 +64,9 @@ module _ (out : List ℕ) (at : ℕ) where
   pub stands-none : Stands out at [] at out
   stands-none = (sym (add-zero at), sym (rw (add-zero at) (take-append-drop at out)))
 
+  pub stands-first : (t : List ℕ) (new : Sheet) → at + length t ≤ length out → new.at ≡ place_after out at t → new.out.now ≡ put_in out at t → Stands out at t new.at new.out.now
+  stands-first t new h p-is b-is = (p-is ∙ place_after-is out at t (omega (arith, h)), b-is ∙ put_in-put out at t (omega (arith, h)))
+
   pub stands-more : (s t : List ℕ) (old new : Sheet) → at + length (s ++ t) ≤ length out → Stands out at s old.at old.out.now → Puts t old new → Stands out at (s ++ t) new.at new.out.now
   stands-more s t old new h (place_is, buffer-is) (same, p-is, b-is) =
       let both = length-append s t in
