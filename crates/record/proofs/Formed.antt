@@ -1,14 +1,13 @@
--- What the tests of a record say where they hold, so that one that fails is enough; and the place that its block then has. Assumes nothing.
+-- What the tests of a record say where they hold, and the place that its block then has. Assumes nothing.
 use mathlib.Core.Path.{◌≡◌, refl}
-use mathlib.Core.Bool.{true, false, ◌&&◌, and-eq-true_iff}
+use mathlib.Core.Bool.{true, ◌&&◌, and-eq-true_iff}
 use mathlib.Core.List.{List}
 use Prim.Native.Nat.{ℕ, ◌+◌, ◌≤◌}
 use native.Mathlib.Omega.{arith}
 use lib.Dec.{eqb, leb}
 use lib.ListN.{length, take, drop, length-drop}
 use lib.Seq.{take_at}
-use borrow.Author.Tests.{leb-true, eqb-true, le-leb, eq-eqb}
-use borrow.Table.Steps.{cases}
+use borrow.Author.Tests.{leb-true, eqb-true}
 use Rattle.text.specs.Text.{put}
 use Rattle.record.specs.Record.{length_of, version_of, block_of, well_formed}
 
@@ -31,16 +30,6 @@ module _ (input : List ℕ) where
   -- it has four bytes
   pub enough : well_formed input ≡ true → 4 ≤ length input
   enough t = let is = formed t in omega (arith, is.some, is.whole)
-
-  pub malformed : (Formed → ⊥) → well_formed input ≡ false
-  malformed not_so = cases (well_formed input) (λ t. absurd (not_so (formed t))) (λ t. t)
-
-  -- the last test decides where the others hold
-  pub by-version : 2 ≤ length_of input → length_of input ≤ 4098 → length input ≡ 2 + length_of input → eqb (version_of input) 1 ≡ well_formed input
-  unfolding well_formed
-  by-version some few whole =
-      let n = length_of input in
-      rw (le-leb 2 n some, le-leb n 4098 few, eq-eqb (length input) (2 + n) whole) refl
 
   -- its block has room in the array, and stands there when it is put
   pub block-few : Formed → length (block_of input) ≤ 4096
