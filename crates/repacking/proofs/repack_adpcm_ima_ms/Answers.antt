@@ -1,5 +1,5 @@
 -- Behind the last channel every byte is written, and then the two blocks are compared.
-use Rattle.std.proofs.Common.{◌≡◌, ℕ, sym, ap, ap₂, ◌∙◌, subst, arith}
+use Rattle.std.proofs.Common.{◌≡◌, ℕ, length, sym, ap, ap₂, ◌∙◌, subst, arith}
 use Rattle.num.specs.Outcome.{outcome}
 use Rattle.ms_block.proofs.Sizes.{shape}
 use Rattle.ms_reading.proofs.Refused.{by_none}
@@ -14,9 +14,9 @@ pub returns : goal.returns
 unfolding repack_ms
 returns c =
     let a = c.args in
-    let inv = c.loop-ch.invariant in
     let all : c.loop-ch.ch ≡ a.channels = omega arith in
-    let is = shape _ _ _ (allowed _ _ _ (sym c.in_ok-check_repack.ensures)).0 in
-    let new = ends a.block.now is c.loop-ch.out inv.same_length (subst (λ (e : ℕ). Upto a.channels a.block.now e 0 c.loop-ch.out) all inv.written) in
-    ap₂ (outcome 0) (c.ne.ensures ∙ differ _ _ (sym inv.same_length) ∙ ap (any_change a.block.now) new) new
+    let taken = allowed a.channels (length a.block.now) (length a.out.now) (sym c.in_ok-check_repack.ensures) in
+    let same : length c.loop-ch.out ≡ length a.block.now = omega (arith, taken.1) in
+    let new = ends a.block.now (shape _ _ _ taken.0) c.loop-ch.out same (subst (λ (e : ℕ). Upto a.channels a.block.now e 0 c.loop-ch.out) all c.loop-ch.invariant) in
+    ap₂ (outcome 0) (c.ne.ensures ∙ differ _ _ (sym same) ∙ ap (any_change a.block.now) new) new
     ∙ by_none a.reading a.channels a.block.now _ _ _ c.in_ok-check_repack.ensures c.in_ok-check_headers.ensures
