@@ -1,5 +1,5 @@
 // The Rust's own shape: the state is lent, and the next one takes its place. Each call loads it, makes the step by value and stores what comes back.
-// Both are exported as they stand, so that Rust can lend them a state too.
+// What C calls is in `adpcm_ima_c`: a library exports nothing.
 ghost use Rattle.std.specs.Prelude.{◌≡◌};
 ghost use Rattle.ima_nibble.specs.Step.{sixteen, stepped, emitted};
 ghost use Rattle.ima_nibble.specs.Table.{ima_steps};
@@ -7,8 +7,7 @@ ghost use Rattle.adpcm_ima.specs.View.{state_of};
 
 use crate::AdpcmImaState;
 
-#[unsafe(no_mangle)]
-pub extern "C" fn decode_adpcm_ima(encoded_nibble: u8, state: &mut AdpcmImaState) -> i16
+pub fn decode_adpcm_ima(encoded_nibble: u8, state: &mut AdpcmImaState) -> i16
     ensures { (state_of state.new ≡ stepped sixteen ima_steps (state_of state.old) encoded_nibble) × (result ≡ state.new.predictor) }
 {
     let before = *state;
@@ -17,8 +16,7 @@ pub extern "C" fn decode_adpcm_ima(encoded_nibble: u8, state: &mut AdpcmImaState
     decoded.sample
 }
 
-#[unsafe(no_mangle)]
-pub extern "C" fn encode_adpcm_ima(sample_value: i16, state: &mut AdpcmImaState) -> u8
+pub fn encode_adpcm_ima(sample_value: i16, state: &mut AdpcmImaState) -> u8
     ensures { (result ≡ emitted sixteen ima_steps (state_of state.old) sample_value) × (state_of state.new ≡ stepped sixteen ima_steps (state_of state.old) result) }
 {
     let before = *state;

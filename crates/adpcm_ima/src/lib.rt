@@ -20,9 +20,9 @@ pub const IMA_STEP_TABLE: [u16; 89] = [
     10442, 11487, 12635, 13899, 15289, 16818, 18500, 20350, 22385, 24623, 27086, 29794, 32767,
 ];
 
-// In the layout of C, for Rust lends it to the calls of `lent`.
+// In the layout of C, which lends it to the calls of `adpcm_ima_c`.
 #[repr(C)]
-#[derive(Clone, Copy)]
+#[derive(Clone, Copy, Debug, Default, PartialEq, Eq)]
 pub struct AdpcmImaState {
     pub predictor: i16,
     pub step_index: u8,
@@ -41,16 +41,25 @@ pub struct Encoded {
     pub state: AdpcmImaState,
 }
 
+// The state inside a block. The index fits its eight bits.
+impl From<AdpcmImaState> for Wide {
+    ghost from_gives = { λ s w. (wide_of w ≡ state_of s) × (w.index < 256) };
+
+    fn from(state: AdpcmImaState) -> Wide {
+        Wide {
+            predictor: state.predictor,
+            index: usize::from(state.step_index),
+            clipped: state.clipped,
+        }
+    }
+}
+
 impl AdpcmImaState {
     // The zero state.
     pub fn new() -> Self
         ensures { state_of result ≡ zero_state }
     {
-        Self {
-            predictor: 0,
-            step_index: 0,
-            clipped: 0,
-        }
+        Self::default()
     }
 
     // The two numbers of a block's header in place of the state's own. The count stays.
@@ -75,29 +84,11 @@ impl AdpcmImaState {
     pub fn same(self, other: AdpcmImaState) -> bool
         ensures { result ≡ same_state (state_of self) (state_of other) }
     {
-        if self.predictor != other.predictor {
-            return false;
-        }
-        if self.step_index == other.step_index {
-            self.clipped == other.clipped
-        } else {
-            false
-        }
+        self == other
     }
 
-    // The state inside a block.
-    pub fn widen(self) -> Wide
-        ensures { (wide_of result ≡ state_of self) × (result.index < 256) }
-    {
-        let clipped = self.clipped;
-        Wide {
-            predictor: self.predictor,
-            index: self.step_index as usize,
-            clipped,
-        }
-    }
-
-    // The state behind a block. An index that came from a state or from a step is below 256.
+    // The state behind a block. It drops the bits of the index above the eighth, so it is no `From`. An index that came from a state or from a step is
+    // below 256.
     pub fn narrow(wide: Wide) -> Self
         ensures { state_of result ≡ narrow (wide_of wide) }
     {
@@ -113,7 +104,7 @@ impl AdpcmImaState {
         ensures { (state_of result.state ≡ stepped sixteen ima_steps (state_of self) nibble) × (result.sample ≡ result.state.predictor) }
     {
         let steps = IMA_STEP_TABLE;
-        let next = self.widen().decode_step(&steps, nibble as u32);
+        let next = Wide::from(self).decode_step(&steps, nibble as u32);
         let sample = next.predictor;
         Decoded {
             sample,
@@ -125,7 +116,7 @@ impl AdpcmImaState {
         ensures { (result.nibble ≡ emitted sixteen ima_steps (state_of self) sample) × (state_of result.state ≡ stepped sixteen ima_steps (state_of self) result.nibble) }
     {
         let steps = IMA_STEP_TABLE;
-        let coded = self.widen().encode_step(&steps, sample);
+        let coded = Wide::from(self).encode_step(&steps, sample);
         Encoded {
             nibble: coded.nibble as u8,
             state: AdpcmImaState::narrow(coded.next),

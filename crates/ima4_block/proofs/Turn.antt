@@ -14,12 +14,6 @@ use Rattle.ima_nibble.specs.Series.{Done, done, after, decoded, encoded, nibbles
 put_one : {Y : Type 0} (out : List Y) (q : ℕ) (y : Y) (r : Done Y) → q < length out → after (take (suc q) (set out q y)) r ≡ after (take q out) (after (y ∷ []) r)
 put_one out q y r h = ap (λ ys. done ys r.end) (put out q y r.written h)
 
--- the first two are
-pub first_two : (out : List ℕ) (a b : ℕ) → 2 ≤ length out → take 2 (set (set out 0 a) 1 b) ≡ a ∷ b ∷ []
-first_two [] a b h = absurd (omega arith)
-first_two (x ∷ []) a b h = absurd (omega arith)
-first_two (x ∷ y ∷ ys) a b h = refl
-
 -- all are written
 pub all : {Y : Type 0} (out : List Y) (n : ℕ) (st : State) → length out ≤ n → after (take n out) (done [] st) ≡ done out st
 all out n st h = ap (λ ys. done ys st) (whole out n h)

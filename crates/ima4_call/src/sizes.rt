@@ -5,7 +5,7 @@ ghost use Rattle.ima4_block.specs.Call as Call;
 pub fn is_block(bytes: usize, samples: usize) -> bool
     ensures { result ≡ Call.is_block bytes samples }
 {
-    if bytes == 34 { samples == 64 } else { false }
+    bytes == 34 && samples == 64
 }
 
 // 1,024 is tested first, so that no product is too large.
@@ -13,12 +13,5 @@ pub fn is_run(bytes: usize, samples: usize) -> bool
     ensures { result ≡ Call.is_run bytes samples }
 {
     let n = bytes / 34;
-    if 1024 < n {
-        return false;
-    }
-    if bytes == 34 * n {
-        samples == 64 * n
-    } else {
-        false
-    }
+    n <= 1024 && bytes == 34 * n && samples == 64 * n
 }

@@ -12,6 +12,7 @@ use ima4_call::{Answer, is_block, is_run, refuse};
 use ima4_header::start_state;
 
 // One block, 34 bytes, to 64 samples.
+#[tactic(auto, unfolding(ima4_block::specs::Call::decode_ima4))]
 pub fn decode_adpcm_ima_ima4(buf: &[u8], state: AdpcmImaState, out_samples: &mut [i16]) -> Answer
     ensures { handed state_of result out_samples.new ≡ decode_ima4 (state_of state) buf.now out_samples.old }
 {
@@ -19,7 +20,7 @@ pub fn decode_adpcm_ima_ima4(buf: &[u8], state: AdpcmImaState, out_samples: &mut
         return refuse(state);
     }
     let steps = IMA_STEP_TABLE;
-    let mut wide = start_state(state, buf[0], buf[1]).widen();
+    let mut wide = Wide::from(start_state(state, buf[0], buf[1]));
     for k in 0..32 {
         let byte = buf[k + 2];
         let index = wide.index_after(byte);
@@ -38,6 +39,7 @@ pub fn decode_adpcm_ima_ima4(buf: &[u8], state: AdpcmImaState, out_samples: &mut
 }
 
 // 0 to 1,024 blocks, each lent onward, the state handed on.
+#[tactic(auto, unfolding(ima4_block::specs::Call::decode_ima4_run))]
 pub fn decode_adpcm_ima_ima4_run(
     buf: &[u8],
     state: AdpcmImaState,

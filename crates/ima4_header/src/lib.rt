@@ -3,20 +3,13 @@
 
 mod rule;
 
-ghost use Rattle.std.specs.Prelude.{◌≡◌, [], ◌∷◌};
+ghost use Rattle.std.specs.Prelude.{◌≡◌};
 ghost use Rattle.adpcm_ima.specs.View.{state_of};
 ghost use Rattle.ima4_block.specs.Header.{ima4_header, start_state, lowered_state};
 
 use adpcm_ima::AdpcmImaState;
 use halves::{bits_of, from_halves, high_half, low_half};
-use num::lesser;
 use rule::keeps;
-
-#[derive(Drop)]
-pub struct Header {
-    pub high: u8,
-    pub low: u8,
-}
 
 // The decoder's own state, or that of the header.
 #[tactic(auto, unfolding(ima4_block::specs::Header::start_state))]
@@ -24,8 +17,7 @@ pub fn start_state(own: AdpcmImaState, high: u8, low: u8) -> AdpcmImaState
     ensures { state_of result ≡ start_state (state_of own) high low }
 {
     let predictor = from_halves(high, low / 128 * 128);
-    let index = lesser((low % 128) as usize, 88);
-    let head = own.reload(predictor, index as u8);
+    let head = own.reload(predictor, (low % 128).min(88));
     if keeps(own, head) { own } else { head }
 }
 
@@ -33,18 +25,14 @@ pub fn start_state(own: AdpcmImaState, high: u8, low: u8) -> AdpcmImaState
 pub fn lowered_state(state: AdpcmImaState) -> AdpcmImaState
     ensures { state_of result ≡ lowered_state (state_of state) }
 {
-    let index = lesser(state.step_index as usize, 88);
-    state.reload(state.predictor, index as u8)
+    state.reload(state.predictor, state.step_index.min(88))
 }
 
 // Nine top bits of the predictor, seven of the lowered index.
-pub fn header_of(state: AdpcmImaState) -> Header
-    ensures { result.high ∷ result.low ∷ [] ≡ ima4_header (lowered_state (state_of state)) }
+pub fn header_of(state: AdpcmImaState) -> [u8; 2]
+    ensures { result ≡ ima4_header (lowered_state (state_of state)) }
 {
-    let seven = lesser(state.step_index as usize, 88);
-    let bits = bits_of(state.predictor) / 128 * 128 + seven as u32;
-    Header {
-        high: high_half(bits),
-        low: low_half(bits),
-    }
+    let seven = state.step_index.min(88);
+    let bits = bits_of(state.predictor) / 128 * 128 + u32::from(seven);
+    [high_half(bits), low_half(bits)]
 }

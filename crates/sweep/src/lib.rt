@@ -25,7 +25,7 @@ pub extern "C" fn sweep_encode(predictor: i16, step_index: u8, answers: &mut [u3
         step_index,
         clipped: 0,
     };
-    let wide = state.widen();
+    let wide = Wide::from(state);
     let mut k = 0;
     while k < answers.len() {
         answers[k] = answer_of(&steps, wide, sample(k));

@@ -15,10 +15,6 @@ use Rattle.ima4_block.specs.Call.{finished, is_block, decode_ima4}
 use Rattle.ima4_block.proofs.Turn.{all, samples_from, two-samples, no-samples}
 use Rattle.ima4_decode.proofs.decode_adpcm_ima_ima4.Goals as goal
 
-pub returns-then-not-is_block : goal.returns-then-not-is_block
-unfolding decode_ima4
-returns-then-not-is_block c = search rules
-
 pub loop-k-preserved : goal.loop-k-preserved
 unfolding ima_steps
 loop-k-preserved c =
@@ -51,7 +47,7 @@ returns c =
     let out = c.loop-k.out_samples in
     let w = wide_of c.loop-k.wide in
     let bytes = c.args.buf.now in
-    let from = c.widen-wide.ensures.0 ∙ c.start_state.ensures in
+    let from = c.from-wide.ensures.0 ∙ c.start_state.ensures in
     let last : c.loop-k.k ≡ 32 = omega arith in
     let state = c.narrow.ensures ∙ narrow_below w inv.index in
     let block =

@@ -8,10 +8,6 @@ use Rattle.ima4_block.proofs.Lengths.{decodes, run-are}
 use Rattle.ima4_block.proofs.Ran.{none, one_block, ends}
 use Rattle.ima4_decode.proofs.decode_adpcm_ima_ima4_run.Goals as goal
 
-pub returns-then-not-is_run : goal.returns-then-not-is_run
-unfolding decode_ima4_run
-returns-then-not-is_run c = search rules
-
 pub loop-i-init : goal.loop-i-init
 loop-i-init c =
     let a = c.args in

@@ -1,5 +1,5 @@
 -- A turn encodes two samples, so what is written and then what the rest is encoded to is the block's. Assumes nothing.
-use Rattle.std.proofs.Common.{◌≡◌, ◌+◌, ◌*◌, length, get_or, take, pos, true, sym, ap, ap₂, ◌∙◌, arith, rules}
+use Rattle.std.proofs.Common.{◌≡◌, ◌+◌, ◌*◌, length, ◌++◌, get_or, take, drop, pos, true, sym, ap, ap₂, ◌∙◌, arith, rules}
 use Rattle.std.proofs.lemmas.Int.{to_z-of_z}
 use mir.Syntax.{w16}
 use mir.Val.{SFits}
@@ -11,12 +11,8 @@ use Rattle.ima_nibble.proofs.Bounds.{moved-lt, narrow_below}
 use Rattle.ima_step.specs.View.{wide_of}
 use Rattle.ima4_block.specs.Block.{encoded_ima4_block}
 use Rattle.ima4_block.specs.Call.{finished, is_block, encode_ima4}
-use Rattle.ima4_block.proofs.Turn.{first_two, all, bytes_from, one_byte, no_bytes}
+use Rattle.ima4_block.proofs.Turn.{all, bytes_from, one_byte, no_bytes}
 use Rattle.ima4_encode.proofs.encode_adpcm_ima_ima4.Goals as goal
-
-pub returns-then-not-is_block : goal.returns-then-not-is_block
-unfolding encode_ima4
-returns-then-not-is_block c = search rules
 
 pub loop-k-preserved : goal.loop-k-preserved
 unfolding ima_steps
@@ -39,7 +35,6 @@ loop-k-preserved c =
       block = rw byte (turn ∙ inv.block);
       samples = inv.samples;
       bytes = search rules;
-      count = omega arith;
       index = moved-lt ima_steps v u _ behind;
     }
 
@@ -51,14 +46,14 @@ returns c =
     let out = c.loop-k.out_buf in
     let w = wide_of c.loop-k.wide in
     let samples = a.samples.now in
-    let header = c.header_of-header in
-    let from = c.widen-wide.ensures.0 ∙ c.lowered_state.ensures in
+    let from = c.from-wide.ensures.0 ∙ c.lowered_state.ensures in
     let taken : is_block (length a.out_buf.now) (length samples) ≡ true = search rules in
     let last : c.loop-k.k ≡ 32 = omega arith in
     let state = c.narrow.ensures ∙ narrow_below w inv.index in
+    let header = c.copy_from_slice.ensures.after ∙ c.header_of.ensures in
     let block =
     sym (all out 34 w (omega arith))
     ∙ ap (after (take 34 out)) (sym (no_bytes ima_steps w samples inv.samples))
     ∙ (rw last at inv.block)
-    ∙ ap₂ (λ bs st. after bs (bytes_from ima_steps 0 st samples)) (first_two a.out_buf.now header.result.high header.result.low (search rules) ∙ header.ensures) from in
+    ∙ ap₂ (λ bs st. after (take 2 (bs ++ drop 2 a.out_buf.now)) (bytes_from ima_steps 0 st samples)) header from in
     rw taken (ap (λ st. outcome 0 st out) state ∙ ap finished block)

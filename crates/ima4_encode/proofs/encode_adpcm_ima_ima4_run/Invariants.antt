@@ -1,5 +1,5 @@
 -- What the first i blocks are encoded to is written.
-use Rattle.std.proofs.Common.{◌≡◌, ◌*◌, ◌-◌, ◌≤◌, length}
+use Rattle.std.proofs.Common.{◌≡◌, ◌*◌, ◌≤◌, length}
 use Rattle.adpcm_ima.specs.View.{state_of}
 use Rattle.ima4_block.specs.Block.{encoded_ima4_block}
 use Rattle.ima4_block.specs.Call.{encode_ima4}
@@ -13,8 +13,4 @@ invariant-loop-i l = record {
   few : l.n ≤ 1024;
   samples : length l.samples ≡ 64 * l.n;
   bytes : length l.out_buf ≡ 34 * l.n;
-  count : l.i ≤ l.n;
 }
-
-abbrev pub decreases-loop-i : goal.decreases-loop-i
-decreases-loop-i l = l.n - l.i

@@ -19,7 +19,7 @@ rule st k = answer_of ima_steps st (sub_ℕ k 32768)
 pub loop-k-preserved : goal.loop-k-preserved
 unfolding ima_steps
 loop-k-preserved c =
-    let w = wide_of c.widen-wide.result in
+    let w = wide_of c.from-wide.result in
     let k = c.loop-k.k in
     let out = c.loop-k.answers in
     let inv = c.loop-k.invariant in
@@ -35,7 +35,7 @@ pub returns : goal.returns
 returns c =
     let inv = c.loop-k.invariant in
     let end : c.loop-k.k ≡ 65536 = omega arith in
-    let w = wide_of c.widen-wide.result in
+    let w = wide_of c.from-wide.result in
     let done = all (rule w) 65536 c.loop-k.answers inv.whole (subst (Upto (rule w) 65536 c.loop-k.answers) end inv.written) in
-    let from_state = c.widen-wide.ensures.0 ∙ ap (λ (p : ℤ). state p c.args.step_index 0) (to_z-of_z w16 _ c.ranges.predictor) in
+    let from_state = c.from-wide.ensures.0 ∙ ap (λ (p : ℤ). state p c.args.step_index 0) (to_z-of_z w16 _ c.ranges.predictor) in
     simp (eq-eqb _ _ c.if-answers-ne65536.false) (ap (outcome 0 tt) (done ∙ ap answers_of from_state))

@@ -13,6 +13,6 @@ unfolding ima_steps
 returns c =
     let nibble = c.args.nibble in
     let f : SFits w16 c.decode_step-next.result.predictor = search rules in
-    let next = c.decode_step-next.ensures ∙ ap (λ (st : State). stepped sixteen ima_steps st nibble) c.widen.ensures.0 in
+    let next = c.decode_step-next.ensures ∙ ap (λ (st : State). stepped sixteen ima_steps st nibble) c.from.ensures.0 in
     let state = c.narrow.ensures ∙ ap narrow next ∙ narrow-is ima_steps _ nibble in
     (state, to_z-of_z w16 _ f ∙ sym (ap (λ (st : State). st.predictor) c.narrow.ensures))

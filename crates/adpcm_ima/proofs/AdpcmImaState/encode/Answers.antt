@@ -13,7 +13,7 @@ unfolding ima_steps
 returns c =
     let coded = c.encode_step-coded in
     let v = coded.result.nibble in
-    let from = c.widen.ensures.0 in
+    let from = c.from.ensures.0 in
     let nibble = coded.ensures.0 ∙ ap₂ (emitted sixteen ima_steps) from (to_z-of_z w16 _ c.ranges.sample) in
     let next = coded.ensures.2 ∙ ap (λ (st : State). stepped sixteen ima_steps st v) from in
     (nibble, c.narrow.ensures ∙ ap narrow next ∙ narrow-is ima_steps (state_of c.args.self) v)
