@@ -3,7 +3,7 @@
 #![tactic(auto)]
 
 // How a header with a step index above 88 is read: strict reading refuses the block, and lenient reading takes the index as 88.
-#[derive(Drop)]
+#[derive(Clone, Copy, Debug, PartialEq, Eq)]
 pub enum Reading {
     Strict,
     Lenient,

@@ -2,7 +2,7 @@
 #![tactic(auto)]
 
 ghost use Rattle.std.specs.Prelude.{◌≡◌, map, ◌*◌, length, take};
-ghost use Rattle.num.specs.Outcome.{outcome};
+ghost use Rattle.refusal.specs.Refusal.{handed};
 ghost use Rattle.adpcm_ima.specs.View.{state_of};
 ghost use Rattle.ms_block.specs.Block.{begun, block_from, states_from, encoded_ms_block};
 ghost use Rattle.ms_block.specs.Call.{encode_ms};
@@ -10,39 +10,29 @@ ghost use Rattle.ms_block.specs.Sizes.{Taken};
 
 use adpcm_ima::{AdpcmImaState, IMA_STEP_TABLE};
 use halves::{bits_of, high_half, low_half, pack};
-use ms_layout::{MOST, refusal};
-use num::lesser;
+use ima_step::Wide;
+use ms_layout::{MOST, check};
+use refusal::Refused;
 
-// `refusal` is 0 for done. A refusal hands the states back as they came, and leaves the buffer alone.
-#[derive(Drop)]
-pub struct Answer {
-    pub states: [AdpcmImaState; MOST],
-    pub refusal: u8,
-}
-
+// A refusal hands the states back as they came, and leaves the buffer alone.
+#[tactic(auto, using(refusal::proofs::Numbers::refuses), unfolding(ms_block::specs::Call::encode_ms))]
 pub fn encode_adpcm_ima_ms(
     channels: u8,
     samples: &[i16],
     states: [AdpcmImaState; MOST],
     out_buf: &mut [u8],
-) -> Answer
-    ensures { outcome result.refusal (map state_of result.states) out_buf.new ≡ encode_ms channels samples.now (map state_of states) out_buf.old }
+) -> Result<[AdpcmImaState; MOST], Refused<[AdpcmImaState; MOST]>>
+    ensures { handed (map state_of) result out_buf.new ≡ encode_ms channels samples.now (map state_of states) out_buf.old }
 {
     let c = channels as usize;
-    let number = refusal(c, out_buf.len(), samples.len());
-    if number == 0 {
-        let begun = heads(c, samples, states, out_buf);
-        let ended = groups(c, samples, begun, out_buf);
-        Answer {
-            refusal: 0,
-            states: ended,
-        }
-    } else {
-        Answer {
-            refusal: number,
-            states,
-        }
+    if let Err(refusal) = check(c, out_buf.len(), samples.len()) {
+        return Err(Refused {
+            refusal,
+            given: states,
+        });
     }
+    let begun = heads(c, samples, states, out_buf);
+    Ok(groups(c, samples, begun, out_buf))
 }
 
 // Every channel's header: its predictor is the first sample, and its index stays as it came.
@@ -56,8 +46,7 @@ fn heads(
     ensures { (map state_of result ≡ begun c (map state_of given) samples.now) × (take (4 * c) out_buf.new ≡ take (4 * c) (encoded_ms_block c (map state_of given) samples.now)) }
 {
     let mut states = given;
-    let mut ch = 0;
-    while ch < c {
+    for ch in 0..c {
         let first = samples[ch];
         let state = states[ch];
         let index = state.step_index;
@@ -67,7 +56,6 @@ fn heads(
         out_buf[4 * ch + 2] = index;
         out_buf[4 * ch + 3] = 0;
         states[ch] = state.reload(first, index);
-        ch += 1;
     }
     states
 }
@@ -86,29 +74,24 @@ fn groups(
     let n = out_buf.len();
     let mut states = starts;
     let mut at = 4 * c;
-    let mut g = 0;
-    'block: loop {
-        let mut ch = 0;
-        while ch < c {
+    'block: for g in 0.. {
+        for ch in 0..c {
             if at == n {
                 break 'block;
             }
-            let end = lesser(at + 4, n);
-            let mut wide = states[ch].widen();
-            // a group starts at frame 8 g + 1, and the samples of a channel stand c apart
-            let mut k = c * (8 * g + 1) + ch;
-            while at < end {
+            let end = (at + 4).min(n);
+            let mut wide = Wide::from(states[ch]);
+            for i in at..end {
+                // a group starts at frame 8 g + 1, and the samples of a channel stand c apart
+                let k = c * (8 * g + 1 + 2 * (i - at)) + ch;
                 let first = wide.encode_step(&steps, samples[k]);
                 let second = first.next.encode_step(&steps, samples[k + c]);
                 wide = second.next;
-                out_buf[at] = pack(first.nibble, second.nibble);
-                k += 2 * c;
-                at += 1;
+                out_buf[i] = pack(first.nibble, second.nibble);
             }
             states[ch] = AdpcmImaState::narrow(wide);
-            ch += 1;
+            at = end;
         }
-        g += 1;
     }
     states
 }

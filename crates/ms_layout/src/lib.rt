@@ -2,29 +2,31 @@
 #![tactic(auto)]
 
 ghost use Rattle.std.specs.Prelude.{◌≡◌, ◌&&◌, ◌||◌, ◌*◌, ◌%◌, ◌≤◌, min, eqb};
+ghost use Rattle.refusal.specs.Refusal.{number_in};
 ghost use Rattle.adpcm_ima.specs.View.{state_of};
 ghost use Rattle.ms_block.specs.Header.{headed};
 ghost use Rattle.ms_block.specs.Sizes.{most, sized, samples_of, ms_refusal, repack_refusal};
 
 use adpcm_ima::AdpcmImaState;
 use halves::from_halves;
-use num::{lesser, monus};
+use refusal::Refusal;
 
 // The most channels that a block has.
 pub const MOST: usize = 8;
 
-// 0 for done, 1 for a channel number that is not taken, and then 2 for lengths that are not.
+// A channel number that is not taken is refused by 1, and then lengths that are not by 2.
 #[tactic(auto, unfolding(ms_block::specs::Sizes::ms_refusal))]
-pub fn refusal(channels: usize, bytes: usize, samples: usize) -> u8
-    ensures { result ≡ ms_refusal channels bytes samples }
+pub fn check(channels: usize, bytes: usize, samples: usize) -> Result<(), Refusal>
+    ensures { number_in result ≡ ms_refusal channels bytes samples }
 {
-    if channels < 1 {
-        return 1;
+    if channels < 1 || MOST < channels {
+        return Err(Refusal::Channels);
     }
-    if MOST < channels {
-        return 1;
+    if fits(channels, bytes, samples) {
+        Ok(())
+    } else {
+        Err(Refusal::Lengths)
     }
-    if fits(channels, bytes, samples) { 0 } else { 2 }
 }
 
 // That a length is at most 65,535 is known before the sum is made.
@@ -32,17 +34,7 @@ fn fits(c: usize, bytes: usize, samples: usize) -> bool
     requires { (1 ≤ c) × (c ≤ most) }
     ensures { result ≡ (sized c bytes && eqb samples (samples_of c bytes)) }
 {
-    if bytes < 4 * c {
-        return false;
-    }
-    if 65535 < bytes {
-        return false;
-    }
-    if may_end(c, bytes) {
-        samples == 2 * (bytes - 4 * c) + c
-    } else {
-        false
-    }
+    4 * c <= bytes && bytes <= 65535 && may_end(c, bytes) && samples == 2 * (bytes - 4 * c) + c
 }
 
 // A block of one channel may end anywhere, and any other at the end of a group. The test of two channels is apart because it needs no division.
@@ -63,24 +55,24 @@ fn may_end(c: usize, bytes: usize) -> bool
 pub fn samples(channels: u8, bytes: usize) -> usize
     ensures { result ≡ samples_of channels (min bytes 65536) }
 {
-    monus(2 * lesser(bytes, 65536), 7 * (channels as usize))
+    (2 * bytes.min(65536)).saturating_sub(7 * usize::from(channels))
 }
 
 // The same of a block and a buffer of equal length for what it is repacked to.
-pub fn repack_refusal(channels: u8, bytes: usize, others: usize) -> u8
-    ensures { result ≡ repack_refusal channels bytes others }
+pub fn check_repack(channels: u8, bytes: usize, others: usize) -> Result<(), Refusal>
+    ensures { number_in result ≡ repack_refusal channels bytes others }
 {
-    let number = refusal(channels as usize, bytes, samples(channels, bytes));
-    if number != 0 {
-        return number;
+    check(channels as usize, bytes, samples(channels, bytes))?;
+    if others == bytes {
+        Ok(())
+    } else {
+        Err(Refusal::Lengths)
     }
-    if others == bytes { 0 } else { 2 }
 }
 
 // The state that a decoder starts a channel from.
 pub fn head(low: u8, high: u8, index: u8) -> AdpcmImaState
     ensures { state_of result ≡ headed low high index }
 {
-    let lowered = lesser(index as usize, 88);
-    AdpcmImaState::new().reload(from_halves(high, low), lowered as u8)
+    AdpcmImaState::new().reload(from_halves(high, low), index.min(88))
 }

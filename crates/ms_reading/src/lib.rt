@@ -1,38 +1,33 @@
-// Which step indices strict reading takes: 0 to 88, in the header of every channel used. The calls that read strictly ask here first.
+// Which step indices strict reading takes: 0 to 88, in the header of every channel used. The calls that read a block ask here after its lengths.
 #![tactic(auto)]
 
 ghost use Rattle.std.specs.Prelude.{◌≡◌, get_or};
-ghost use Rattle.ms_block.specs.declared.Reading.TheVariants.{Strict};
+ghost use Rattle.refusal.specs.Refusal.{number_in};
 ghost use Rattle.ms_block.specs.Readings.{sound_headers, read_by};
 
-// What becomes of the number that the channel number and the lengths have given: 8 in the place of 0, if the headers are not sound.
-pub fn strict_refusal(number: u8, channels: u8, block: &[u8]) -> u8
-    ensures { result ≡ read_by Strict channels block.now number }
+use ms_block::Reading;
+use refusal::Refusal;
+
+// Headers that are not sound are refused by 8 in strict reading, and lenient reading takes all.
+pub fn check_headers(reading: Reading, channels: u8, block: &[u8]) -> Result<(), Refusal>
+    ensures { number_in result ≡ read_by reading channels block.now 0 }
 {
-    if number != 0 {
-        return number;
+    if reading == Reading::Strict && !sound_headers(channels, block) {
+        return Err(Refusal::StepIndex);
     }
-    if sound_headers(channels, block) { 0 } else { 8 }
+    Ok(())
 }
 
 // Whether no index is above 88, in the header of any channel used. A header that is not there has none.
 fn sound_headers(channels: u8, block: &[u8]) -> bool
     ensures { result ≡ sound_headers channels block.now }
 {
-    let c = channels as usize;
-    let mut ch = 0;
-    while ch < c {
-        if 88 < byte_at(block, 4 * ch + 2) {
-            return false;
-        }
-        ch += 1;
-    }
-    true
+    (0..channels as usize).all(|ch| byte_at(block, 4 * ch + 2) <= 88)
 }
 
 // The byte at a place, or 0 behind the end.
 fn byte_at(block: &[u8], at: usize) -> u8
     ensures { result ≡ get_or block.now at 0 }
 {
-    if at < block.len() { block[at] } else { 0 }
+    block.get(at).copied().unwrap_or(0)
 }

@@ -5,7 +5,7 @@ use mathlib.Core.List.{List, [], ◌∷◌, ◌++◌, map, append-nil, append_as
 use Prim.Native.Nat.{ℕ, zero, suc, ◌+◌, ◌-◌, ◌<◌, ◌≤◌}
 use native.Mathlib.Omega.{arith}
 use lib.ListN.{length, get_or, set, take}
-use lib.Seq.{take-suc, take-suc-set, take_all, set-get_or}
+use lib.Seq.{take-suc, take-suc-set, take_all, set-get_or, ext_get_or}
 use Rattle.num.specs.Lists.{from, All}
 
 pub all_split : {X : Type 0} (P : X → Type 0) (xs ys : List X) → All P (xs ++ ys) → All P xs × All P ys
@@ -69,6 +69,12 @@ module _ {X : Type 0} (f : ℕ → X) where
   -- a table that is the rule's list has the rule's value at each place
   pub table : (xs : List X) (n : ℕ) → xs ≡ from n 0 f → (k : ℕ) (d : X) → k < n → get_or xs k d ≡ f k
   table xs n e k d h = ap (λ (ys : List X). get_or ys k d) e ∙ get_or-from n 0 k d h ∙ ap f (omega arith)
+
+  -- and a list that has it is the rule's list
+  pub by_place : (xs : List X) (n : ℕ) (d : X) → length xs ≡ n → ((k : ℕ) → k < n → get_or xs k d ≡ f k) → xs ≡ from n 0 f
+  by_place xs n d long at =
+      ext_get_or d xs (from n 0 f) (long ∙ sym (length_from n 0))
+      (λ k h. at k (omega (arith, h, long)) ∙ ap f (omega arith) ∙ sym (get_or-from n 0 k d (omega (arith, h, long))))
 
   -- k places of n are written
   abbrev pub Upto : ℕ → List X → ℕ → Type 0

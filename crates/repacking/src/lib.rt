@@ -1,11 +1,10 @@
-// Repacking an MS block, in lenient reading: what decoding it and encoding the samples again would give. It goes channel by channel and nibble by
+// Repacking an MS block: what decoding it and encoding the samples again would give. It goes channel by channel and nibble by
 // nibble, with a state that reads and one that writes, so that no samples are kept.
 #![tactic(auto)]
 
-ghost use Rattle.std.specs.Prelude.{◌≡◌, ◌+◌, ◌<◌, length};
-ghost use Rattle.num.specs.Outcome.{outcome};
+ghost use Rattle.std.specs.Prelude.{◌≡◌, ◌+◌, ◌<◌, length, false};
+ghost use Rattle.refusal.specs.Refusal.{answered};
 ghost use Rattle.adpcm_ima.specs.View.{state_of};
-ghost use Rattle.ms_block.specs.declared.Reading.TheVariants.{Lenient};
 ghost use Rattle.ms_block.specs.Header.{head_of};
 ghost use Rattle.ms_block.specs.Block.{bytes_in};
 ghost use Rattle.ms_repacked.specs.Private.{Alike, Upto};
@@ -14,55 +13,33 @@ ghost use Rattle.ms_repacked.specs.Repack.{repacked, any_change, repack_ms};
 use adpcm_ima::{AdpcmImaState, IMA_STEP_TABLE};
 use halves::{bits_of, high_half, low_half, pack};
 use ima_step::Wide;
-use ms_layout::{head, repack_refusal};
+use ms_block::Reading;
+use ms_layout::{check_repack, head};
+use ms_reading::check_headers;
+use refusal::Refusal;
 
-// `refusal` is 0 for done. A refusal leaves the buffer alone, and no byte changed.
-#[derive(Drop)]
-pub struct Answer {
-    pub refusal: u8,
-    pub changed: bool,
-}
-
-pub fn repack_adpcm_ima_ms_lenient(channels: u8, block: &[u8], out: &mut [u8]) -> Answer
-    ensures { outcome result.refusal result.changed out.new ≡ repack_ms Lenient channels block.now out.old }
+// What comes back is whether any byte changed. The headers are asked about after the lengths, and a refusal leaves the buffer alone.
+#[tactic(auto, using(ms_repacked::proofs::Unlike::differ, ms_repacked::proofs::Theorems::allowed, ms_reading::proofs::Refused::by_lengths, ms_reading::proofs::Refused::by_headers, ms_reading::proofs::Refused::by_none), unfolding(ms_repacked::specs::Repack::repack_ms))]
+pub fn repack_adpcm_ima_ms(
+    reading: Reading,
+    channels: u8,
+    block: &[u8],
+    out: &mut [u8],
+) -> Result<bool, Refusal>
+    ensures { answered (λ b. b) false result out.new ≡ repack_ms reading channels block.now out.old }
 {
-    let number = repack_refusal(channels, block.len(), out.len());
-    if number == 0 {
-        repack_channels(channels as usize, block, out);
-        Answer {
-            refusal: 0,
-            changed: any_change(block, out),
-        }
-    } else {
-        Answer {
-            refusal: number,
-            changed: false,
-        }
-    }
-}
-
-fn any_change(block: &[u8], out: &[u8]) -> bool
-    requires { length block.now ≡ length out.now }
-    ensures { result ≡ any_change block.now out.now }
-{
-    let mut i = 0;
-    while i < block.len() {
-        if block[i] != out[i] {
-            return true;
-        }
-        i += 1;
-    }
-    false
+    check_repack(channels, block.len(), out.len())?;
+    check_headers(reading, channels, block)?;
+    repack_channels(channels as usize, block, out);
+    Ok(block != out)
 }
 
 fn repack_channels(c: usize, block: &[u8], out: &mut [u8])
     requires { Alike c block.now out.old }
     ensures { out.new ≡ repacked c block.now }
 {
-    let mut ch = 0;
-    while ch < c {
+    for ch in 0..c {
         channel(c, ch, block, out);
-        ch += 1;
     }
 }
 
@@ -74,10 +51,9 @@ fn channel(c: usize, ch: usize, block: &[u8], out: &mut [u8])
 {
     let steps = IMA_STEP_TABLE;
     let share = block.len() / c;
-    let mut reads = header(c, ch, block, out).widen();
+    let mut reads = Wide::from(header(c, ch, block, out));
     let mut writes = reads;
-    let mut d = 4;
-    while d < share {
+    for d in 4..share {
         let at = 4 * (c * (d / 4) + ch) + d % 4;
         let byte = block[at];
         let index = reads.index_after(byte);
@@ -91,7 +67,6 @@ fn channel(c: usize, ch: usize, block: &[u8], out: &mut [u8])
         let second = first.next.encode_step(&steps, pair.second);
         writes = second.next;
         out[at] = pack(first.nibble, second.nibble);
-        d += 1;
     }
 }
 

@@ -1,5 +1,5 @@
 -- An iteration reads one channel's header.
-use Rattle.std.proofs.Common.{◌≡◌, ◌∙◌, ℕ, map, length, refl, sym, ap, subst, arith, rules, length-set}
+use Rattle.std.proofs.Common.{◌≡◌, ◌<◌, ◌∙◌, ℕ, map, length, refl, sym, ap, subst, arith, rules, length-set}
 use Rattle.std.proofs.lemmas.List.{length-map}
 use mir.Syntax.{w16}
 use mir.Val.{SFits, to_z, of_z}
@@ -18,8 +18,8 @@ pub loop-ch-init : goal.loop-ch-init
 unfolding from
 loop-ch-init c =
     let a = c.args in
-    let zero = wide_of c.widen-wides.result in
-    let none : zero.clipped ≡ 0 = ap (λ (st : State). st.clipped) (c.widen-wides.ensures.0 ∙ c.head.ensures) in
+    let zero = wide_of c.from-wides.result in
+    let none : zero.clipped ≡ 0 = ap (λ (st : State). st.clipped) (c.from-wides.ensures.0 ∙ c.head.ensures) in
     let all = all_from (λ (k : ℕ). zero) (λ (st : State). st.clipped ≡ 0) (λ k. none) most 0 in
     record {
       headed = record {
@@ -29,7 +29,6 @@ loop-ch-init c =
       shape = shape a.c (length a.buf.now) (length a.out_samples.now) c.requires;
       same = refl;
       size = refl;
-      inside = omega arith;
     }
 
 pub loop-ch-preserved : goal.loop-ch-preserved
@@ -37,19 +36,18 @@ loop-ch-preserved c =
     let a = c.args in
     let inv = c.loop-ch.invariant in
     let ch = c.loop-ch.ch in
-    let h = c.loop-ch-test.true in
+    let h : ch < a.c = omega arith in
     let out = c.loop-ch.out_samples in
     let wides = c.loop-ch.wides in
-    let wide = c.widen-wide.result in
+    let wide = c.from-wide.result in
     let x = to_z w16 (of_z w16 wide.predictor) in
     let f : SFits w16 wide.predictor = search rules in
     let long = length-set out ch x in
-    let st-is = c.widen-wide.ensures.0 ∙ c.head-in-loop-ch.ensures ∙ sym (head-is a.buf.now inv.shape ch h) in
+    let st-is = c.from-wide.ensures.0 ∙ c.head-in-loop-ch.ensures ∙ sym (head-is a.buf.now inv.shape ch h) in
     let turn = heads-turn a.c a.buf.now ch out (map wide_of wides) (wide_of wide) x (omega (arith, samples-all inv.shape)) (omega (arith, inv.shape.few, length-map wides wide_of)) st-is (to_z-of_z w16 _ f) inv.headed in
     record {
       headed = rw (map-set wide_of wides ch wide) turn;
       shape = subst (Shape a.c (length a.buf.now)) (sym long) inv.shape;
       same = long ∙ inv.same;
       size = length-set wides ch wide ∙ inv.size;
-      inside = omega arith;
     }

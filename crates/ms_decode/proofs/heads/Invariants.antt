@@ -1,5 +1,5 @@
 -- The headers of the channels before ch are read.
-use Rattle.std.proofs.Common.{◌≡◌, map, length, ◌-◌, ◌≤◌}
+use Rattle.std.proofs.Common.{◌≡◌, map, length}
 use Rattle.ima_step.specs.View.{wide_of}
 use Rattle.ms_block.specs.Sizes.{most}
 use Rattle.ms_block.proofs.Sizes.{Shape}
@@ -12,8 +12,4 @@ invariant-loop-ch l = record {
   shape : Shape l.c (length l.buf) (length l.out_samples);
   same : length l.out_samples ≡ length l.initial.out_samples;
   size : length l.wides ≡ most;
-  inside : l.ch ≤ l.c;
 }
-
-abbrev pub decreases-loop-ch : goal.decreases-loop-ch
-decreases-loop-ch l = l.c - l.ch

@@ -1,5 +1,5 @@
 -- The bytes before the place are written, and each channel's state is behind its own of them; within a channel's bytes that channel's state is in `wide`.
-use Rattle.std.proofs.Common.{◌-◌, ◌≡◌, map, ◌*◌, length, ◌+◌, ◌<◌}
+use Rattle.std.proofs.Common.{◌-◌, ◌≡◌, map, ◌*◌, length, ◌<◌}
 use Rattle.std.proofs.Math.ListN.{set}
 use Rattle.adpcm_ima.specs.View.{state_of}
 use Rattle.ima_step.specs.View.{wide_of}
@@ -8,19 +8,15 @@ use Rattle.ms_block.proofs.Walk.{Groups, Channels, Bytes}
 use Rattle.ms_encode.proofs.Write.{Upto}
 use Rattle.ms_encode.proofs.groups.Given as goal
 
-abbrev pub invariant-loop-at : goal.invariant-loop-at
-invariant-loop-at l = record {
-  written : Upto l.c l.samples (map state_of l.fn.starts) l.at l.out_buf (set (map state_of l.states) l.ch (wide_of l.wide));
-  walk : Bytes l.c l.n l.g l.ch l.initial.at l.end l.at;
+abbrev pub invariant-loop-i : goal.invariant-loop-i
+invariant-loop-i l = record {
+  written : Upto l.c l.samples (map state_of l.fn.starts) l.i l.out_buf (set (map state_of l.states) l.ch (wide_of l.wide));
+  walk : Bytes l.c l.n l.g l.ch l.at l.end l.i;
   samples : length l.samples ≡ 2 * l.n - 7 * l.c;
   size : length l.out_buf ≡ l.n;
   some : length l.states ≡ most;
-  place : l.k ≡ l.c * (8 * l.g + 1 + 2 * (l.at - l.initial.at)) + l.ch;
   low : l.wide.index < 256;
 }
-
-abbrev pub decreases-loop-at : goal.decreases-loop-at
-decreases-loop-at l = l.end - l.at
 
 abbrev pub invariant-loop-ch : goal.invariant-loop-ch
 invariant-loop-ch l = record {
@@ -31,17 +27,11 @@ invariant-loop-ch l = record {
   some : length l.states ≡ most;
 }
 
-abbrev pub decreases-loop-ch : goal.decreases-loop-ch
-decreases-loop-ch l = l.c - l.ch
-
 abbrev pub invariant-block : goal.invariant-block
 invariant-block l = record {
   written : Upto l.c l.samples (map state_of l.fn.starts) l.at l.out_buf (map state_of l.states);
-  walk : Groups l.c l.n l.g l.at;
+  walk : Groups l.c l.n l.g-iterator.start l.at;
   samples : length l.samples ≡ 2 * l.n - 7 * l.c;
   size : length l.out_buf ≡ l.n;
   some : length l.states ≡ most;
 }
-
-abbrev pub decreases-block : goal.decreases-block
-decreases-block l = l.n - l.g

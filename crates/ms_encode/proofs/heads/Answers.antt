@@ -19,7 +19,6 @@ loop-ch-init c =
       written = begun_first a.c a.samples.now (map state_of a.given) a.out_buf.now;
       shape = shape a.c (length a.out_buf.now) (length a.samples.now) c.requires;
       some = search rules;
-      until = omega arith;
     }
 
 pub loop-ch-preserved : goal.loop-ch-preserved
@@ -43,7 +42,7 @@ loop-ch-preserved c =
     let long = four-length out (4 * ch) low.result high.result st.step_index 0 in
     let own = get_or-map state_of states ch zeroed in
     let turn =
-    begun-turn samples (map state_of a.given) is ch out (map state_of states) bits.result st.step_index (state_of c.reload.result) c.loop-ch-test.true loop.auto.out_buf some
+    begun-turn samples (map state_of a.given) is ch out (map state_of states) bits.result st.step_index (state_of c.reload.result) (omega arith) loop.auto.out_buf some
     (bits.ensures.0 ∙ ap bits_of first)
     (ap (λ (s : State). s.index) (sym own))
     (c.reload.ensures ∙ ap₂ (λ (s : State) (z : ℤ). reloaded s z st.step_index) (sym own) first)
@@ -52,7 +51,6 @@ loop-ch-preserved c =
       written = rw (map-set state_of states ch c.reload.result, low.ensures, high-is) turn;
       shape = subst (λ (k : ℕ). Shape a.c k (length samples)) (sym long) inv.shape;
       some = length-set states ch c.reload.result ∙ inv.some;
-      until = omega arith;
     }
 
 pub returns : goal.returns

@@ -1,5 +1,5 @@
 -- The headers of the channels so far are written, and their predictors set.
-use Rattle.std.proofs.Common.{◌-◌, ◌≡◌, map, length, ◌≤◌}
+use Rattle.std.proofs.Common.{◌≡◌, map, length}
 use Rattle.adpcm_ima.specs.View.{state_of}
 use Rattle.ms_block.specs.Sizes.{most}
 use Rattle.ms_block.proofs.Sizes.{Shape}
@@ -11,8 +11,4 @@ invariant-loop-ch l = record {
   written : Begun l.c l.samples (map state_of l.fn.given) l.ch l.out_buf (map state_of l.states);
   shape : Shape l.c (length l.out_buf) (length l.samples);
   some : length l.states ≡ most;
-  until : l.ch ≤ l.c;
 }
-
-abbrev pub decreases-loop-ch : goal.decreases-loop-ch
-decreases-loop-ch l = l.c - l.ch

@@ -1,10 +1,12 @@
--- One index above 88 is enough, and at the end of the loop there is none.
-use Rattle.std.proofs.Common.{sym, arith}
-use Rattle.ms_block.proofs.Readings.{sound-if, unsound}
+-- Every header is tested.
+use Rattle.std.proofs.Common.{rules, tests, arith, ◌∙◌}
+use Rattle.std.proofs.lemmas.Iterator.{YieldsList-from_range}
+use Rattle.std.proofs.lemmas.Iterator.Search.{all_from_yields_List}
+use Rattle.ms_reading.proofs.Headers.{sound, each_sound}
 use Rattle.ms_reading.proofs.sound_headers.Goals as goal
 
-pub returns-then-byte_at-gt88 : goal.returns-then-byte_at-gt88
-returns-then-byte_at-gt88 c = sym (unsound _ c.args.block.now c.loop-ch.ch (omega arith) (omega arith))
-
 pub returns : goal.returns
-returns c = sym (sound-if _ _ (λ e h. c.loop-ch.invariant.0 e (omega arith)))
+returns c =
+    let a = c.args in
+    all_from_yields_List (sound a.block.now) _ _ _ c.all.ensures.ran (YieldsList-from_range 0 a.channels a.channels (cc) (omega arith)) (λ x b q k. search (rules, tests))
+    ∙ each_sound a.block.now a.channels

@@ -7,7 +7,7 @@ use Rattle.ima_nibble.specs.Table.{ima_steps}
 use Rattle.ima_step.specs.View.{wide_of}
 use Rattle.ima_step.proofs.Twice.{behind}
 use Rattle.ms_block.specs.Weave.{place}
-use Rattle.ms_block.proofs.Sizes.{shape, four_bytes}
+use Rattle.ms_block.proofs.Sizes.{shape}
 use Rattle.ms_repacked.proofs.Midway.{Midway, start, turn}
 use Rattle.repacking.proofs.channel.Goals as goal
 
@@ -16,10 +16,8 @@ loop-d-init c =
     let is = shape _ _ _ c.requires.0.0 in
     let made = c.header.ensures in
     record {
-      midway = start c.args.block.now is c.args.ch c.requires.1 c.header.new.out (wide_of c.widen-reads.result) (c.widen-reads.ensures.0 ∙ made.0) made.1;
+      midway = start c.args.block.now is c.args.ch c.requires.1 c.header.new.out (wide_of c.from-reads.result) (c.from-reads.ensures.0 ∙ made.0) made.1;
       same_length = c.header.auto.out ∙ c.requires.0.1;
-      header = omega arith;
-      within = four_bytes is;
     }
 
 pub loop-d-preserved : goal.loop-d-preserved
@@ -50,10 +48,8 @@ loop-d-preserved c =
     let once =
     turn a.block.now is a.ch c.requires.1 loop.d byte first.result.nibble second.result.nibble loop.out
     read between after write (wide_of first.result.next) (wide_of second.result.next)
-    loop.invariant.header c.loop-d-test.true loop.invariant.same_length refl refl after_is first-is first.ensures.2 second.ensures.0 second.ensures.2 loop.invariant.midway in
+    (omega arith) (omega arith) loop.invariant.same_length refl refl after_is first-is first.ensures.2 second.ensures.0 second.ensures.2 loop.invariant.midway in
     record {
       midway = subst (λ (d : ℕ). Behind d written.result) next (subst (Behind (suc loop.d)) (sym packed) once);
       same_length = length-set loop.out p written.result ∙ loop.invariant.same_length;
-      header = omega arith;
-      within = omega arith;
     }
