@@ -9,6 +9,7 @@ pub(crate) fn show(rt: &impl Print) -> io::Result<()> {
     print_encoded(rt, -4)
 }
 
+// The decoder comes in a closure, since no proof is made of a function of another crate as a value.
 fn print_decoded<D: Fn(u8) -> i16 + Drop>(
     rt: &impl Print,
     law: &str,

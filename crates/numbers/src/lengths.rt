@@ -1,4 +1,4 @@
-// The lengths that the MS calls take: n bytes, or m samples, and beside them a buffer of the length that fits.
+// The lengths that the MS calls take: those of a block, or of samples, and beside them a buffer of the length that fits.
 use adpcm_ima::AdpcmImaState;
 use ms_block::Reading;
 use ms_decode::decode_adpcm_ima_ms;
