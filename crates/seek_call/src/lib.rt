@@ -1,69 +1,64 @@
 // What the calls of a seek index take: the bytes of the run, k, the record, the block and the samples.
 #![tactic(auto)]
 
-ghost use Rattle.std.specs.Prelude.{◌≡◌, ◌+◌, ◌*◌, ◌≤◌};
+ghost use Rattle.std.specs.Prelude.{◌≡◌, ◌≤◌};
+ghost use Rattle.refusal.specs.Refusal.{number_in};
 ghost use Rattle.seek_index.specs.Call.{are_run, is_every, index_length, is_index, index_refusal, place_refusal, from_refusal};
 
-// To build: 0 for done, 3 for the run's bytes, and then 5 for k or the length of the record.
-pub fn index_refusal(bytes: usize, every: u8, size: usize) -> u8
-    ensures { result ≡ index_refusal bytes every size }
+use halves::join;
+use refusal::Refusal;
+
+// To build: the run's bytes, and then k and the length of the record.
+pub fn check_index(bytes: usize, every: u8, size: usize) -> Result<(), Refusal>
+    ensures { number_in result ≡ index_refusal bytes every size }
 {
     if !are_run(bytes) {
-        return 3;
+        return Err(Refusal::Blocks);
     }
-    if !is_every(every) {
-        return 5;
-    }
-    if size == index_length(every, bytes / 34) {
-        0
+    if is_every(every) && size == index_length(every, bytes / 34) {
+        Ok(())
     } else {
-        5
+        Err(Refusal::Index)
     }
 }
 
-// To use an index at block `from`: 0 for done, 3 for the run's bytes, and then 5 for the index or the block.
-pub fn place_refusal(bytes: usize, index: &[u8], from: usize) -> u8
-    ensures { result ≡ place_refusal bytes index.now from }
+// To use an index at block `from`: the run's bytes, and then the index and the block.
+pub fn check_place(bytes: usize, index: &[u8], from: usize) -> Result<(), Refusal>
+    ensures { number_in result ≡ place_refusal bytes index.now from }
 {
     if !are_run(bytes) {
-        return 3;
+        return Err(Refusal::Blocks);
     }
     let n = bytes / 34;
-    if !is_index(n, index) {
-        return 5;
+    if is_index(n, index) && from < n {
+        Ok(())
+    } else {
+        Err(Refusal::Index)
     }
-    if from < n { 0 } else { 5 }
 }
 
-// To decode from there: the same, and then 3 for the samples.
-pub fn from_refusal(bytes: usize, index: &[u8], from: usize, samples: usize) -> u8
-    ensures { result ≡ from_refusal bytes index.now from samples }
+// To decode from there: the same, and then the samples.
+pub fn check_from(bytes: usize, index: &[u8], from: usize, samples: usize) -> Result<(), Refusal>
+    ensures { number_in result ≡ from_refusal bytes index.now from samples }
 {
-    let number = place_refusal(bytes, index, from);
-    if number != 0 {
-        return number;
-    }
+    check_place(bytes, index, from)?;
     if samples == 64 * (bytes / 34 - from) {
-        0
+        Ok(())
     } else {
-        3
+        Err(Refusal::Blocks)
     }
 }
 
 fn are_run(bytes: usize) -> bool
     ensures { result ≡ are_run bytes }
 {
-    if 1024 < bytes / 34 {
-        false
-    } else {
-        bytes == 34 * (bytes / 34)
-    }
+    bytes / 34 <= 1024 && bytes.is_multiple_of(34)
 }
 
 fn is_every(every: u8) -> bool
     ensures { result ≡ is_every every }
 {
-    if every < 1 { false } else { every <= 64 }
+    (1..=64).contains(&every)
 }
 
 // As many bytes as an index has for n blocks, of which every k-th has its state kept.
@@ -71,34 +66,19 @@ fn index_length(every: u8, n: usize) -> usize
     requires { (1 ≤ every) × (n ≤ 1024) }
     ensures { result ≡ index_length every n }
 {
-    let k = every as usize;
-    4 + 3 * ((n + (k - 1)) / k)
+    4 + 3 * n.div_ceil(usize::from(every))
 }
 
-// The length that two bytes are, the high one first.
-fn length_of(high: u8, low: u8) -> usize
-    ensures { result ≡ high * 256 + low }
-{
-    (high as usize) * 256 + (low as usize)
-}
-
-// That there are four bytes is known before one of them is read.
+// Four bytes before the states: the length of what stands behind the first two, the version, and k.
 fn is_index(n: usize, index: &[u8]) -> bool
     requires { n ≤ 1024 }
     ensures { result ≡ is_index n index.now }
 {
-    if index.len() < 4 {
+    let [high, low, version, every, ..] = index else {
         return false;
-    }
-    let every = index[3];
-    if index[2] != 1 {
-        return false;
-    }
-    if !is_every(every) {
-        return false;
-    }
-    if index.len() != index_length(every, n) {
-        return false;
-    }
-    length_of(index[0], index[1]) == index.len() - 2
+    };
+    *version == 1
+        && is_every(*every)
+        && index.len() == index_length(*every, n)
+        && join(*high, *low) == index.len() - 2
 }
