@@ -3,7 +3,7 @@ use mathlib.Core.Path.{◌≡◌, refl, sym, ap, ◌∙◌}
 use mathlib.Core.List.{List, [], ◌∷◌, ◌++◌, append-nil}
 use Prim.Native.Nat.{ℕ, zero, suc, ◌+◌, ◌-◌, ◌*◌, ◌/◌, ◌%◌, ◌≤◌, ◌<◌}
 use native.Mathlib.Omega.{arith}
-use lib.ListN.{length, get_or, set, take, drop, length-drop, drop_of_length-le}
+use lib.ListN.{length, get_or, take, drop, length-drop, drop_of_length-le}
 use lib.Seq.{drop-cons, drop-append-add, length-take-le}
 use borrow.Rule.Slice.PartMut.{put_mid}
 use Rattle.num.specs.Lists.{from}
@@ -43,14 +43,6 @@ state-back head four sts i d h inside =
     let behind = ap (λ (n : ℕ). drop (n + 3 * i) (head ++ state_bytes sts)) (sym four) ∙ drop-append-add head (state_bytes sts) (3 * i) in
     let three = behind ∙ bytes_drop i sts ∙ ap state_bytes (drop-cons sts i d h) in
     rw three (ap (λ p. state p st.index 0) (halves-back st.predictor inside.above inside.below))
-
--- the four bytes before the states are written
-pub first-four : (out : List ℕ) (a b c d : ℕ) → 4 ≤ length out → take 4 (set (set (set (set out 0 a) 1 b) 2 c) 3 d) ≡ a ∷ b ∷ c ∷ d ∷ []
-first-four [] a b c d h = absurd (omega arith)
-first-four (w ∷ []) a b c d h = absurd (omega arith)
-first-four (w ∷ x ∷ []) a b c d h = absurd (omega arith)
-first-four (w ∷ x ∷ y ∷ []) a b c d h = absurd (omega arith)
-first-four (w ∷ x ∷ y ∷ z ∷ zs) a b c d h = refl
 
 -- all behind the first p is written, as it was lent
 pub put-behind : (p : ℕ) (xs ys : List ℕ) → p ≤ length xs → put_mid p (length xs - p) xs ys ≡ take p xs ++ ys

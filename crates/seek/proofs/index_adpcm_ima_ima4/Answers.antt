@@ -1,28 +1,20 @@
 -- It writes the head, and then the states of the whole run.
-use Rattle.std.proofs.Common.{◌≡◌, ℕ, ◌-◌, ◌/◌, List, ◌++◌, length, refl, sym, ap, ap₂, ◌∙◌, arith}
-use borrow.Author.Tests.{ne_eqb}
+use Rattle.std.proofs.Common.{◌≡◌, ℕ, ◌-◌, ◌/◌, List, ◌++◌, length, sym, ap, ap₂, ◌∙◌, arith}
 use Rattle.num.specs.Outcome.{outcome}
 use Rattle.seek_index.specs.Record.{rest_length, record_head, seek_index}
-use Rattle.seek_index.specs.Call.{index_refusal, index_ima4}
+use Rattle.seek_index.specs.Call.{index_ima4}
 use Rattle.seek_index.proofs.Lengths.{index-taken}
 use Rattle.seek_index.proofs.Bytes.{put-behind}
 use Rattle.seek.proofs.index_adpcm_ima_ima4.Goals as goal
-
-pub returns-then-number-ne0 : goal.returns-then-number-ne0
-unfolding index_ima4
-returns-then-number-ne0 c =
-    let a = c.args in
-    let is = c.index_refusal-number.ensures in
-    rw (is, ne_eqb (index_refusal (length a.buf.now) a.every (length a.index.now)) 0 (λ e. c.if-number-ne0.true (is ∙ e))) refl
 
 pub returns : goal.returns
 unfolding index_ima4 seek_index
 returns c =
     let a = c.args in
-    let t = sym c.index_refusal-number.ensures ∙ c.if-number-ne0.false in
+    let t = sym c.in_default.ensures in
     let (few, _, _, most, sized) = index-taken (length a.buf.now) a.every (length a.index.now) t in
     let index = c.put_head.new.index in
-    let kept = c.keep_states-end in
+    let kept = c.keep_states in
     let same : length index ≡ length a.index.now = c.put_head.auto.index in
     let rest : length a.index.now - 2 ≡ rest_length a.every (length a.buf.now / 34) = omega (arith, sized) in
     let head = c.put_head.ensures ∙ ap (record_head a.every) rest in

@@ -27,7 +27,6 @@ loop-i-init c =
       before = ap (state_before (state_of a.state) bytes) (sym none);
       size = omega (arith, c.requires);
       many = omega (arith, c.requires);
-      small = omega arith;
     }
 
 pub loop-i-preserved : goal.loop-i-preserved
@@ -56,10 +55,9 @@ loop-i-preserved c =
     let out₂ = set out₁ (3 * i + 1) c.low_half.result in
     record {
       filled = one-state-more f m i c.high_half.result c.low_half.result loop.next.step_index out inv.size (omega arith) high low index inv.filled;
-      before = next-kept st bytes k n i c.lesser-end.result (state_of loop.next) (state_of c.state_behind-next.result) pre.1 few c.lesser-end.ensures inv.before c.state_behind-next.ensures;
+      before = next-kept st bytes k n i c.min-end.result (state_of loop.next) (state_of c.state_behind-next.result) pre.1 few c.min-end.ensures inv.before c.state_behind-next.ensures;
       size = length-set out₂ (3 * i + 2) loop.next.step_index ∙ length-set out₁ (3 * i + 1) c.low_half.result ∙ length-set out (3 * i) c.high_half.result ∙ inv.size;
       many = inv.many;
-      small = omega arith;
     }
 
 pub returns : goal.returns
@@ -71,7 +69,7 @@ returns c =
     let n = length a.buf.now / 34 in
     let m = length a.out.now / 3 in
     let f : ℕ → State = λ e. state_before (state_of a.state) a.buf.now (k * e) in
-    let last : loop.i ≡ states_kept k n = omega (arith, c.loop-i-test.false, inv.many, inv.small) in
+    let last : loop.i ≡ states_kept k n = omega (arith, c.loop-i-test.false, inv.many) in
     let count : loop.i ≡ m = last ∙ sym inv.many in
     let all : min (k * loop.i) n ≡ n = rw last (omega (arith, all-kept k c.requires.2 n)) in
     let filled = all-filled f m loop.out inv.size (subst (λ (i : ℕ). Filled f m loop.out i) count inv.filled) in

@@ -1,22 +1,25 @@
 -- A turn decodes a block, of which the state alone counts.
-use Rattle.std.proofs.Common.{◌≡◌, ◌/◌, length, refl, rules, arith}
+use Rattle.std.proofs.Common.{◌∙◌, ◌/◌, length, refl, rules, arith}
+use Rattle.refusal.proofs.Done.{handed-done}
 use Rattle.adpcm_ima.specs.View.{state_of}
 use Rattle.ima4_block.specs.Run.{run}
+use Rattle.ima4_block.proofs.Theorems.{decode-fits}
 use Rattle.seek_index.proofs.Turn.{next-state}
 use Rattle.seek.proofs.state_behind.Goals as goal
 
 pub loop-i-init : goal.loop-i-init
 unfolding run
-loop-i-init c = (refl, omega arith)
+loop-i-init c = refl
+
+pub unwrap-next-requires : goal.unwrap-next-requires
+unwrap-next-requires c =
+    let call = c.decode_adpcm_ima_ima4_run in
+    handed-done state_of _ _ call.result call.new.out_samples (call.ensures ∙ decode-fits 1 (omega arith) _ _ _ (search rules) (search rules))
 
 pub loop-i-preserved : goal.loop-i-preserved
 loop-i-preserved c =
     let a = c.args in
     let loop = c.loop-i in
-    let inv = loop.invariant in
-    let call = c.decode_adpcm_ima_ima4_run-block in
-    let room : length loop.samples ≡ 64 = search rules in
-    let turn =
-    next-state (state_of a.state) a.buf.now (length a.buf.now / 34) loop.i (state_of loop.next) (state_of call.result.state) call.result.refusal loop.samples
-    call.new.out_samples call.ensures room c.loop-i-test.true (omega arith) inv.0 in
-    (turn, omega arith)
+    let call = c.decode_adpcm_ima_ima4_run in
+    next-state (state_of a.state) a.buf.now (length a.buf.now / 34) loop.i (state_of loop.next) (state_of c.unwrap-next.result) 0 loop.samples call.new.out_samples
+    (rw c.unwrap-next.ensures at call.ensures) (search rules) c.loop-i-test.true (omega arith) loop.invariant
