@@ -5,7 +5,6 @@
 
 mod cut;
 mod laws;
-mod print;
 
 use std::io;
 
