@@ -10,25 +10,23 @@ use seek::{decode_adpcm_ima_ima4_from, index_adpcm_ima_ima4};
 use std::{array, io};
 
 pub(crate) fn show(rt: &impl Print) -> io::Result<()> {
+    let zeroed = AdpcmImaState::new();
     let mut bytes = [0u8; 68];
-    encode_adpcm_ima_ima4_run(&wave(), AdpcmImaState::new(), &mut bytes).unwrap();
+    encode_adpcm_ima_ima4_run(&wave(), zeroed, &mut bytes).unwrap();
     let mut whole = [0i16; 128];
-    decode_adpcm_ima_ima4_run(&bytes, AdpcmImaState::new(), &mut whole).unwrap();
+    decode_adpcm_ima_ima4_run(&bytes, zeroed, &mut whole).unwrap();
     decode_apart(rt, &bytes, &whole[64..])?;
     decode_by_index(rt, &bytes, &whole[64..])
 }
 
 // `second` is what the second block decodes to in the run that is not cut.
 fn decode_apart(rt: &impl Print, bytes: &[u8; 68], second: &[i16]) -> io::Result<()> {
+    let zeroed = AdpcmImaState::new();
     let mut samples = [0i16; 64];
-    let state = decode_adpcm_ima_ima4_run(
-        &bytes[..34],
-        AdpcmImaState::new(),
-        &mut samples,
-    ).unwrap();
+    let state = decode_adpcm_ima_ima4_run(&bytes[..34], zeroed, &mut samples).unwrap();
     decode_adpcm_ima_ima4_run(&bytes[34..], state, &mut samples).unwrap();
     print_compared(rt, "second block, state carried", second, &samples)?;
-    decode_adpcm_ima_ima4_run(&bytes[34..], AdpcmImaState::new(), &mut samples).unwrap();
+    decode_adpcm_ima_ima4_run(&bytes[34..], zeroed, &mut samples).unwrap();
     print_compared(rt, "second block, state zeroed", second, &samples)
 }
 

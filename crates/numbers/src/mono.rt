@@ -7,12 +7,10 @@ use std::{fmt, io};
 pub(crate) fn show(rt: &impl Print) -> io::Result<()> {
     let block = [0u8, 0, 0, 0, 0x17];
     let mut samples = [1i16; 3];
-    let _ = decode_adpcm_ima_ms(Reading::Strict, 1, &block, &mut samples);
+    decode_adpcm_ima_ms(Reading::Strict, 1, &block, &mut samples).unwrap();
     let mut new = [1u8; 5];
-    let what = match repack_adpcm_ima_ms(Reading::Strict, 1, &block, &mut new) {
-        Ok(true) => "changed",
-        _ => "the same",
-    };
+    let changed = repack_adpcm_ima_ms(Reading::Strict, 1, &block, &mut new).unwrap();
+    let what = if changed { "changed" } else { "the same" };
     let old = Bytes(&block);
     let new = Bytes(&new);
     let [a, b, c] = samples;

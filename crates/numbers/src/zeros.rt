@@ -17,7 +17,7 @@ fn zero(rt: &impl Print, predictor: i16, index: u8) -> io::Result<()> {
     let from = state(predictor, index);
     let block = [0u8; 34];
     let mut samples = [1i16; 64];
-    let _ = decode_adpcm_ima_ima4(&block, from, &mut samples);
+    decode_adpcm_ima_ima4(&block, from, &mut samples).unwrap();
     let from = Shown(from);
     let first = samples[0];
     let alike = samples.iter().filter(|x| **x == first).count();
@@ -29,7 +29,7 @@ fn header_88(rt: &impl Print, predictor: i16, index: u8) -> io::Result<()> {
     let mut block = [0u8; 34];
     block[1] = 88;
     let mut samples = [1i16; 64];
-    let _ = decode_adpcm_ima_ima4(&block, from, &mut samples);
+    decode_adpcm_ima_ima4(&block, from, &mut samples).unwrap();
     let from = Shown(from);
     let first = samples[0];
     println!(rt; "ima4 block with header (0,88): from {from} first sample {first}")
