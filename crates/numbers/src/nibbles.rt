@@ -1,21 +1,19 @@
 // One nibble, decoded and encoded.
 use crate::state::{Shown, state};
+use adpcm_ima::AdpcmImaState;
 use std::io;
 
 pub(crate) fn show(rt: &impl Print) -> io::Result<()> {
-    print_decode(rt, 0, 0, 7)?;
-    print_decode(rt, 0, 0, 15)?;
-    print_decode(rt, 0, 0, 8)?;
-    print_decode(rt, 0, 255, 0)?;
-    print_decode(rt, 0, 88, 7)?;
-    print_encode(rt, 0, 0, 0)?;
-    print_encode(rt, 0, 0, -1)?;
-    print_encode(rt, 0, 0, 32767)?;
-    print_encode(rt, 32758, 0, 32767)
+    for (predictor, index, nibble) in [(0, 0, 7), (0, 0, 15), (0, 0, 8), (0, 255, 0), (0, 88, 7)] {
+        print_decode(rt, state(predictor, index), nibble)?;
+    }
+    for (predictor, index, sample) in [(0, 0, 0), (0, 0, -1), (0, 0, 32767), (32758, 0, 32767)] {
+        print_encode(rt, state(predictor, index), sample)?;
+    }
+    Ok(())
 }
 
-fn print_decode(rt: &impl Print, predictor: i16, index: u8, nibble: u8) -> io::Result<()> {
-    let from = state(predictor, index);
+fn print_decode(rt: &impl Print, from: AdpcmImaState, nibble: u8) -> io::Result<()> {
     let decoded = from.decode(nibble);
     let from = Shown(from);
     let sample = decoded.sample;
@@ -23,8 +21,7 @@ fn print_decode(rt: &impl Print, predictor: i16, index: u8, nibble: u8) -> io::R
     println!(rt; "decode {from}: {nibble} gives {sample}, index {next}")
 }
 
-fn print_encode(rt: &impl Print, predictor: i16, index: u8, sample: i16) -> io::Result<()> {
-    let from = state(predictor, index);
+fn print_encode(rt: &impl Print, from: AdpcmImaState, sample: i16) -> io::Result<()> {
     let encoded = from.encode(sample);
     let from = Shown(from);
     let nibble = encoded.nibble;

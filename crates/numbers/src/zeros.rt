@@ -1,20 +1,21 @@
 // Ima4 blocks whose nibbles are all 0. The last two numbers are an easy slip: lowered before it is compared with the header's 88, an
 // index of 200 would keep its state, as 88 does.
 use crate::state::{Shown, state};
+use adpcm_ima::AdpcmImaState;
 use ima4_decode::decode_adpcm_ima_ima4;
 use std::io;
 
 pub(crate) fn show(rt: &impl Print) -> io::Result<()> {
-    zero(rt, 100, 0)?;
-    zero(rt, 127, 0)?;
-    zero(rt, 128, 0)?;
-    zero(rt, -128, 0)?;
-    header_88(rt, 100, 88)?;
-    header_88(rt, 100, 200)
+    for predictor in [100, 127, 128, -128] {
+        zero(rt, state(predictor, 0))?;
+    }
+    for index in [88, 200] {
+        header_88(rt, state(100, index))?;
+    }
+    Ok(())
 }
 
-fn zero(rt: &impl Print, predictor: i16, index: u8) -> io::Result<()> {
-    let from = state(predictor, index);
+fn zero(rt: &impl Print, from: AdpcmImaState) -> io::Result<()> {
     let block = [0u8; 34];
     let mut samples = [1i16; 64];
     decode_adpcm_ima_ima4(&block, from, &mut samples).unwrap();
@@ -24,8 +25,7 @@ fn zero(rt: &impl Print, predictor: i16, index: u8) -> io::Result<()> {
     println!(rt; "all-zero ima4 block: from {from} {alike} samples of {first}")
 }
 
-fn header_88(rt: &impl Print, predictor: i16, index: u8) -> io::Result<()> {
-    let from = state(predictor, index);
+fn header_88(rt: &impl Print, from: AdpcmImaState) -> io::Result<()> {
     let mut block = [0u8; 34];
     block[1] = 88;
     let mut samples = [1i16; 64];
