@@ -5,16 +5,12 @@
 
 mod cut;
 mod laws;
-mod print;
 
 use std::io;
 
 fn main(rt: HostRuntime) -> io::Result<()> {
-    laws::show(&rt, 0)?;
-    laws::show(&rt, -4)?;
-    laws::show(&rt, 1000)?;
-    laws::show(&rt, -1000)?;
-    laws::show(&rt, 32767)?;
-    laws::show(&rt, -32768)?;
+    for sample in [0, -4, 1000, -1000, 32767, -32768] {
+        laws::show(&rt, sample)?;
+    }
     cut::show(&rt)
 }

@@ -1,82 +1,63 @@
-// The lengths that the MS calls take: n bytes, or m samples, and beside them a buffer of the length that fits.
-ghost use Rattle.std.specs.Prelude.{◌≤◌, length};
-
-use crate::say::{number, text};
+// The lengths that the MS calls take: those of a block, or of samples, and beside them a buffer of the length that fits.
 use adpcm_ima::AdpcmImaState;
+use ms_block::Reading;
+use ms_decode::decode_adpcm_ima_ms;
 use ms_encode::encode_adpcm_ima_ms;
 use ms_layout::MOST;
-use ms_strict::decode_adpcm_ima_ms;
-use num::monus;
+use refusal::Refusal;
 use std::io;
 
 pub(crate) fn show(rt: &impl Print) -> io::Result<()> {
-    print_decode(rt, 1, 3)?;
-    print_decode(rt, 1, 4)?;
-    print_decode(rt, 2, 8)?;
-    print_decode(rt, 2, 12)?;
-    print_decode(rt, 1, 65536)?;
-    print_decode(rt, 2, 65536)?;
-    print_encode(rt, 1, 0)?;
-    print_encode(rt, 2, 0)?;
-    print_encode(rt, 2, 2)?;
-    print_encode(rt, 2, 18)?;
-    print_encode(rt, 2, 10)
+    print_decode(rt, 1, &[0; 3], &mut [])?;
+    print_decode(rt, 1, &[0; 4], &mut [0; 1])?;
+    print_decode(rt, 2, &[0; 8], &mut [0; 2])?;
+    print_decode(rt, 2, &[0; 12], &mut [0; 10])?;
+    print_decode(rt, 1, &[0; 65536], &mut [0; 131065])?;
+    print_decode(rt, 2, &[0; 65536], &mut [0; 131058])?;
+    print_encode(rt, 1, &[], &mut [0; 3])?;
+    print_encode(rt, 2, &[], &mut [0; 7])?;
+    print_encode(rt, 2, &[0; 2], &mut [0; 8])?;
+    print_encode(rt, 2, &[0; 18], &mut [0; 16])?;
+    print_encode(rt, 2, &[0; 10], &mut [0; 12])
 }
 
-fn print_decode(rt: &impl Print, channels: u8, n: usize) -> io::Result<()>
-    requires { n ≤ 65536 }
-{
-    let block = [0u8; 65536];
-    let mut samples = [0i16; 131072];
-    let m = monus(2 * n, 7 * channels as usize);
-    print_question(rt, b"decode ", channels, n)?;
-    print_answer(rt, b" bytes", decode(channels, &block, n, &mut samples, m))
+fn print_decode(
+    rt: &impl Print,
+    channels: u8,
+    block: &[u8],
+    samples: &mut [i16],
+) -> io::Result<()> {
+    let refusal = decode_adpcm_ima_ms(Reading::Strict, channels, block, samples).err();
+    print_answer(rt, "decode", channels, block.len(), "bytes", refusal)
 }
 
-fn print_encode(rt: &impl Print, channels: u8, m: usize) -> io::Result<()>
-    requires { (channels ≤ 2) × (m ≤ 18) }
-{
-    let samples = [0i16; 18];
-    let mut block = [0u8; 16];
-    let n = (m + 7 * channels as usize) / 2;
-    print_question(rt, b"encode ", channels, m)?;
-    print_answer(
-        rt,
-        b" samples",
-        encode(channels, &samples, m, &mut block, n),
-    )
-}
-
-fn decode(channels: u8, block: &[u8], n: usize, samples: &mut [i16], m: usize) -> u8
-    requires { (n ≤ length block.now) × (m ≤ length samples.old) }
-{
-    let answer = decode_adpcm_ima_ms(channels, &block[0..n], &mut samples[0..m]);
-    answer.refusal
-}
-
-fn encode(channels: u8, samples: &[i16], m: usize, block: &mut [u8], n: usize) -> u8
-    requires { (m ≤ length samples.now) × (n ≤ length block.old) }
-{
+fn print_encode(
+    rt: &impl Print,
+    channels: u8,
+    samples: &[i16],
+    block: &mut [u8],
+) -> io::Result<()> {
     let states = [AdpcmImaState::new(); MOST];
-    let answer = encode_adpcm_ima_ms(channels, &samples[0..m], states, &mut block[0..n]);
-    answer.refusal
+    let refused = encode_adpcm_ima_ms(channels, samples, states, block).err();
+    let refusal = refused.map(|refused| refused.refusal);
+    print_answer(rt, "encode", channels, samples.len(), "samples", refusal)
 }
 
-fn print_question(rt: &impl Print, call: &[u8], channels: u8, length: usize) -> io::Result<()> {
-    text(rt, call)?;
-    if channels == 1 {
-        number(rt, b"mono, ", length as u64)
-    } else {
-        number(rt, b"stereo, ", length as u64)
-    }
-}
-
-fn print_answer(rt: &impl Print, unit: &[u8], refusal: u8) -> io::Result<()> {
-    text(rt, unit)?;
-    if refusal == 0 {
-        text(rt, b" taken\n")
-    } else {
-        number(rt, b" refused by ", refusal as u64)?;
-        text(rt, b"\n")
+fn print_answer(
+    rt: &impl Print,
+    call: &str,
+    channels: u8,
+    length: usize,
+    unit: &str,
+    refusal: Option<Refusal>,
+) -> io::Result<()> {
+    let blocks = if channels == 1 { "mono" } else { "stereo" };
+    print!(rt; "{call} {blocks}, {length} {unit} ")?;
+    match refusal {
+        None => println!(rt; "taken"),
+        Some(refusal) => {
+            let number = refusal.number();
+            println!(rt; "refused by {number}")
+        }
     }
 }

@@ -6,7 +6,6 @@ mod laws;
 mod lengths;
 mod mono;
 mod nibbles;
-mod say;
 mod state;
 mod zeros;
 

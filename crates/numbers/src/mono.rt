@@ -1,40 +1,31 @@
 // A mono MS block of five bytes.
-use crate::say::{byte, signed_number, text};
-use ms_strict::{decode_adpcm_ima_ms, repack_adpcm_ima_ms};
-use std::io;
+use ms_block::Reading;
+use ms_decode::decode_adpcm_ima_ms;
+use repacking::repack_adpcm_ima_ms;
+use std::{fmt, io};
 
 pub(crate) fn show(rt: &impl Print) -> io::Result<()> {
     let block = [0u8, 0, 0, 0, 0x17];
-    print_bytes(rt, b"mono", &block)?;
-    print_decode(rt, &block)?;
-    print_repack(rt, &block)
-}
-
-fn print_decode(rt: &impl Print, block: &[u8]) -> io::Result<()> {
     let mut samples = [1i16; 3];
-    decode_adpcm_ima_ms(1, block, &mut samples);
-    signed_number(rt, b" decodes to ", samples[0])?;
-    signed_number(rt, b", ", samples[1])?;
-    signed_number(rt, b", ", samples[2])
+    decode_adpcm_ima_ms(Reading::Strict, 1, &block, &mut samples).unwrap();
+    let mut new = [1u8; 5];
+    let changed = repack_adpcm_ima_ms(Reading::Strict, 1, &block, &mut new).unwrap();
+    let what = if changed { "changed" } else { "the same" };
+    let old = Bytes(&block);
+    let new = Bytes(&new);
+    let [a, b, c] = samples;
+    println!(rt; "mono{old} decodes to {a}, {b}, {c} and repacks to{new}, {what}")
 }
 
-fn print_repack(rt: &impl Print, block: &[u8]) -> io::Result<()> {
-    let mut out = [1u8; 5];
-    let answer = repack_adpcm_ima_ms(1, block, &mut out);
-    print_bytes(rt, b" and repacks to", &out)?;
-    if answer.changed {
-        text(rt, b", changed\n")
-    } else {
-        text(rt, b", the same\n")
-    }
-}
+// Each in hex, with a space in front.
+#[derive(Drop)]
+struct Bytes<'a>(&'a [u8]);
 
-fn print_bytes(rt: &impl Print, front: &[u8], block: &[u8]) -> io::Result<()> {
-    text(rt, front)?;
-    let mut k = 0;
-    while k < block.len() {
-        byte(rt, b" ", block[k])?;
-        k += 1;
+impl fmt::Display for Bytes<'_> {
+    fn fmt<W: fmt::Write>(&self, f: &mut fmt::Formatter<W>) -> fmt::Result {
+        for byte in self.0 {
+            write!(f, " {byte:02x}")?;
+        }
+        Ok(())
     }
-    Ok(())
 }

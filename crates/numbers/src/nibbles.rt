@@ -1,36 +1,30 @@
 // One nibble, decoded and encoded.
-use crate::say::{number, signed_number, text};
-use crate::state;
+use crate::state::{Shown, state};
+use adpcm_ima::AdpcmImaState;
 use std::io;
 
 pub(crate) fn show(rt: &impl Print) -> io::Result<()> {
-    print_decode(rt, 0, 0, 7)?;
-    print_decode(rt, 0, 0, 15)?;
-    print_decode(rt, 0, 0, 8)?;
-    print_decode(rt, 0, 255, 0)?;
-    print_decode(rt, 0, 88, 7)?;
-    print_encode(rt, 0, 0, 0)?;
-    print_encode(rt, 0, 0, -1)?;
-    print_encode(rt, 0, 0, 32767)?;
-    print_encode(rt, 32758, 0, 32767)
+    for (predictor, index, nibble) in [(0, 0, 7), (0, 0, 15), (0, 0, 8), (0, 255, 0), (0, 88, 7)] {
+        print_decode(rt, state(predictor, index), nibble)?;
+    }
+    for (predictor, index, sample) in [(0, 0, 0), (0, 0, -1), (0, 0, 32767), (32758, 0, 32767)] {
+        print_encode(rt, state(predictor, index), sample)?;
+    }
+    Ok(())
 }
 
-fn print_decode(rt: &impl Print, predictor: i16, index: u8, nibble: u8) -> io::Result<()> {
-    let from = state::make(predictor, index);
-    let d = from.decode(nibble);
-    state::print(rt, b"decode ", from)?;
-    number(rt, b": ", nibble as u64)?;
-    signed_number(rt, b" gives ", d.sample)?;
-    number(rt, b", index ", d.state.step_index as u64)?;
-    text(rt, b"\n")
+fn print_decode(rt: &impl Print, from: AdpcmImaState, nibble: u8) -> io::Result<()> {
+    let decoded = from.decode(nibble);
+    let from = Shown(from);
+    let sample = decoded.sample;
+    let next = decoded.state.step_index;
+    println!(rt; "decode {from}: {nibble} gives {sample}, index {next}")
 }
 
-fn print_encode(rt: &impl Print, predictor: i16, index: u8, sample: i16) -> io::Result<()> {
-    let from = state::make(predictor, index);
-    let e = from.encode(sample);
-    state::print(rt, b"encode ", from)?;
-    signed_number(rt, b": ", sample)?;
-    number(rt, b" gives ", e.nibble as u64)?;
-    state::print(rt, b" and ", e.state)?;
-    text(rt, b"\n")
+fn print_encode(rt: &impl Print, from: AdpcmImaState, sample: i16) -> io::Result<()> {
+    let encoded = from.encode(sample);
+    let from = Shown(from);
+    let nibble = encoded.nibble;
+    let next = Shown(encoded.state);
+    println!(rt; "encode {from}: {sample} gives {nibble} and {next}")
 }

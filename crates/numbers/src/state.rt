@@ -1,15 +1,18 @@
-// A state: (predictor, index).
-use crate::say::{number, signed_number, text};
+// A state, and how it is printed: (predictor,index).
 use adpcm_ima::AdpcmImaState;
-use std::io;
+use std::fmt;
 
-pub(crate) fn make(predictor: i16, index: u8) -> AdpcmImaState {
+pub(crate) fn state(predictor: i16, index: u8) -> AdpcmImaState {
     AdpcmImaState::new().reload(predictor, index)
 }
 
-pub(crate) fn print(rt: &impl Print, front: &[u8], state: AdpcmImaState) -> io::Result<()> {
-    text(rt, front)?;
-    signed_number(rt, b"(", state.predictor)?;
-    number(rt, b",", state.step_index as u64)?;
-    text(rt, b")")
+#[derive(Clone, Copy)]
+pub(crate) struct Shown(pub(crate) AdpcmImaState);
+
+impl fmt::Display for Shown {
+    fn fmt<W: fmt::Write>(&self, f: &mut fmt::Formatter<W>) -> fmt::Result {
+        let predictor = self.0.predictor;
+        let index = self.0.step_index;
+        write!(f, "({predictor},{index})")
+    }
 }

@@ -1,0 +1,6 @@
+use Rattle.std.proofs.Common.{rules}
+use Rattle.numbers.proofs.Done.{decoded}
+use Rattle.numbers.proofs.zeros.header_88.Goals as goal
+
+pub unwrap-requires : goal.unwrap-requires
+unwrap-requires g c = search (rules, decoded)
