@@ -1,14 +1,18 @@
 -- A block repacked into the first places of an array, in either reading: what was refused, and what stands in the array otherwise. Assumes nothing.
 use mathlib.Core.Path.{◌≡◌, refl, sym, ap, ◌∙◌}
-use mathlib.Core.Bool.{Bool}
+use mathlib.Core.Bool.{Bool, false}
 use mathlib.Core.List.{List, ◌++◌, append_assoc}
 use Prim.Native.Nat.{ℕ, ◌+◌, ◌≤◌}
 use native.Mathlib.Omega.{arith}
 use lib.ListN.{length, take, drop, length-append, length-drop}
 use lib.Seq.{take_at, length-take-le}
 use borrow.Author.Tests.{ne_eqb}
+use Rattle.std.specs.Prelude.{Ok, Err}
 use Rattle.num.specs.Outcome.{outcome}
 use Rattle.num.proofs.Outcome.{number_is}
+use Rattle.refusal.specs.declared.Refusal.{Refusal}
+use Rattle.refusal.specs.Refusal.{refusal_number, answered}
+use Rattle.refusal.proofs.Numbers.{number-not-0}
 use Rattle.ms_block.specs.declared.Reading.{Reading}
 use Rattle.ms_block.specs.Readings.{read_by}
 use Rattle.ms_block.specs.Sizes.{samples_of, repack_refusal}
@@ -37,27 +41,30 @@ module _ (reading : Reading) (c : ℕ) (block : List ℕ) where
     pub size : length xs ≡ 4096
     pub says : let new = take (length block) xs in answer_for reading c block ≡ line (first_line changed (loss_of c block new) ++ hex new)
 
-module _ (reading : Reading) (c : ℕ) (block out xs : List ℕ) (k : ℕ) (changed : Bool) (few : length block ≤ 4096) (room : length out ≡ 4096)
-    (e : outcome k changed xs ≡ repack_ms reading c block (take (length block) out)) where
-  long : length (take (length block) out) ≡ length block
-  long = length-take-le (length block) out (omega (arith, few, room))
+module _ (reading : Reading) (c : ℕ) (block out xs : List ℕ) where
+  refused : (refusal : Refusal) → length block ≤ 4096 → length out ≡ 4096 → answered (λ b. b) false (Err refusal) xs ≡ repack_ms reading c block (take (length block) out)
+      → refusal_number refusal ≡ refusal_for reading c block (length block)
+  refused refusal few room e =
+      let long : length (take (length block) out) ≡ length block = length-take-le (length block) out (omega (arith, few, room)) in
+      ap (λ r. r.number) e ∙ refusal_is reading c block (take (length block) out) ∙ ap (refusal_for reading c block) long
 
-  number : k ≡ refusal_for reading c block (length block)
-  number = ap (λ r. r.number) e ∙ refusal_is reading c block (take (length block) out) ∙ ap (refusal_for reading c block) long
-
-  pub refuses : (k ≡ 0 → ⊥) → answer_for reading c block ≡ refusal_line k
+  pub refuses : (refusal : Refusal) → length block ≤ 4096 → length out ≡ 4096 → answered (λ b. b) false (Err refusal) xs ≡ repack_ms reading c block (take (length block) out)
+      → answer_for reading c block ≡ refusal_line (refusal_number refusal)
   unfolding answer_for
-  refuses h =
-      let other : refusal_for reading c block (length block) ≡ 0 → ⊥ = λ z. h (number ∙ z) in
+  refuses refusal few room e =
+      let number = refused refusal few room e in
+      let other : refusal_for reading c block (length block) ≡ 0 → ⊥ = λ z. number-not-0 refusal (number ∙ z) in
       rw (ne_eqb (refusal_for reading c block (length block)) 0 other, ← number) refl
 
-  pub made : k ≡ 0 → Made reading c block changed (xs ++ drop (length block) out)
+  pub made : (changed : Bool) → length block ≤ 4096 → length out ≡ 4096 → answered (λ b. b) false (Ok changed) xs ≡ repack_ms reading c block (take (length block) out)
+      → Made reading c block changed (xs ++ drop (length block) out)
   unfolding repack_ms answer_for both_lines
-  made done =
+  made changed few room e =
       let n = length block in
-      let taken : refusal_for reading c block n ≡ 0 = sym number ∙ done in
+      let long : length (take n out) ≡ n = length-take-le n out (omega (arith, few, room)) in
+      let taken : refusal_for reading c block n ≡ 0 = sym (ap (λ r. r.number) e ∙ refusal_is reading c block (take n out) ∙ ap (refusal_for reading c block) long) in
       let small : Small c block = ((allowed c n n (not-refused c block reading (repack_refusal c n n) taken)).0, few) in
-      let result : outcome k changed xs ≡ outcome 0 (any_change block (repacked c block)) (repacked c block) = e ∙ rw (long, taken) refl in
+      let result : outcome 0 changed xs ≡ outcome 0 (any_change block (repacked c block)) (repacked c block) = e ∙ rw (long, taken) refl in
       let xs-are = ap (λ r. r.buffer) result in
       let many = ap length xs-are ∙ repacked-length block (shape c n (samples_of c n) small.0) in
       let New-is = take_at xs (drop n out) n many ∙ xs-are in
@@ -66,14 +73,6 @@ module _ (reading : Reading) (c : ℕ) (block out xs : List ℕ) (k : ℕ) (chan
         size = length-append xs (drop n out) ∙ omega (arith, many, few, room, length-drop n out);
         says = rw (taken, New-is, ← (ap (λ r. r.back) result)) (sym (append_assoc (first_line changed (loss_of c block (repacked c block))) (hex (repacked c block)) (ascii "\n")));
       }
-
--- A buffer as long as it was before a short text was put into it.
-pub as_long : (out text buffer : List ℕ) (place : ℕ) → Stands out 0 text place buffer → place ≤ 52 → length buffer ≡ 8245 → length out ≡ 8245
-as_long out text buffer place (place_is, buffer-is) few size =
-    let parts = length-append text (drop (0 + length text) out) in
-    let rest = length-drop (0 + length text) out in
-    let whole : length buffer ≡ length (text ++ drop (0 + length text) out) = ap length buffer-is in
-    omega (arith, place_is, few, size, parts, rest, whole)
 
 -- The first places of a buffer have the text that was put there.
 pub counts : (out text buffer : List ℕ) (place : ℕ) → Stands out 0 text place buffer → (place ≤ length buffer) × (place ≡ length (take place buffer))

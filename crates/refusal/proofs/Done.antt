@@ -15,3 +15,8 @@ module _ {X Back Buffer : Type 0} (view : X → Back) (back : Back) (buffer : Bu
   pub answered-done : (none : Back) (r : Result X Refusal) (ys : Buffer) → answered view none r ys ≡ outcome 0 back buffer → IsOk r
   answered-done none (Ok x) ys is = refl
   answered-done none (Err e) ys is = absurd (number-not-0 e (ap (λ o. o.number) is))
+
+-- The buffer is in what a call comes to.
+pub answered-buffer : {X Back Buffer : Type 0} (view : X → Back) (none : Back) (r : Result X Refusal) (ys : Buffer) → ys ≡ (answered view none r ys).buffer
+answered-buffer view none (Ok x) ys = refl
+answered-buffer view none (Err e) ys = refl
