@@ -5,12 +5,12 @@ use native.Mathlib.Nat.{add-zero}
 use Rattle.std.specs.Prelude.{Option, option_map, position, zip}
 use Rattle.std.specs.List.{position_from}
 use Rattle.std.proofs.lemmas.Iterator.Adapters.{position_from-zero}
-use Prim.Native.Nat.{ℕ, zero, suc, ◌+◌, ◌≤◌, ◌<◌, max}
+use Prim.Native.Nat.{ℕ, suc, ◌+◌, ◌≤◌, ◌<◌, max}
 use native.Mathlib.Numerals.{add-one}
 use native.Mathlib.Omega.{arith}
 use lib.Dec.{eqb}
 use lib.IntN.{ℤ, pos}
-use lib.ListN.{length, get_or, take, drop, drop_of_length-le}
+use lib.ListN.{length, get_or, drop, drop_of_length-le}
 use lib.Seq.{drop-cons}
 use mir.Syntax.{w16}
 use mir.Val.{SFits, to_z, of_z}
@@ -71,17 +71,12 @@ first-place xs ys start =
     ∙ from-place xs ys start 0
     ∙ ap (λ (n : ℕ). first_from n (distances xs ys)) (add-zero start)
 
-no_second : (xs : List ℤ) → distances xs [] ≡ []
+pub distances-append : (xs ys us vs : List ℤ) → length xs ≡ length ys → distances (xs ++ us) (ys ++ vs) ≡ distances xs ys ++ distances us vs
 unfolding distances
-no_second [] = refl
-no_second (x ∷ xs) = refl
-
-pub parted : (k : ℕ) (xs ys : List ℤ) → distances xs ys ≡ distances (take k xs) (take k ys) ++ distances (drop k xs) (drop k ys)
-unfolding distances
-parted zero xs ys = refl
-parted (suc k) [] ys = refl
-parted (suc k) (x ∷ xs) [] = sym (no_second (drop k xs))
-parted (suc k) (x ∷ xs) (y ∷ ys) = ap (λ (ds : List ℕ). distance x y ∷ ds) (parted k xs ys)
+distances-append [] [] us vs e = refl
+distances-append [] (y ∷ ys) us vs e = absurd (omega arith)
+distances-append (x ∷ xs) [] us vs e = absurd (omega arith)
+distances-append (x ∷ xs) (y ∷ ys) us vs e = ap (λ (ds : List ℕ). distance x y ∷ ds) (distances-append xs ys us vs (omega arith))
 
 pub distances-length : (xs ys : List ℤ) → length xs ≡ length ys → length (distances xs ys) ≡ length xs
 unfolding distances

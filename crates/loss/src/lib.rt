@@ -5,7 +5,7 @@ ghost use Rattle.std.specs.Prelude.{◌≡◌, ◌<◌, ◌≤◌, length, None}
 ghost use Rattle.refusal.specs.Refusal.{answered};
 ghost use Rattle.loss.specs.Loss as Report;
 ghost use Rattle.loss.specs.Loss.{distances, first_from, first_of, report, report_in, loss_report};
-ghost use Rattle.loss.specs.Private.{alike_to, rest, Sees};
+ghost use Rattle.loss.specs.Private.{rest, Sees};
 
 use refusal::Refusal;
 
@@ -46,17 +46,16 @@ fn look(before: &[i16], after: &[i16]) -> All
     requires { (length before.now ≡ length after.now) × (length before.now ≤ 131063) }
     ensures { Sees (distances before.now after.now) result.count result.largest × (first_from result.alike (rest before.now after.now result.alike) ≡ first_of (distances before.now after.now)) × (result.alike ≤ length before.now) }
 {
-    let n = before.len();
     let mut count = 0;
     let mut largest: u16 = 0;
     let mut alike = 0;
-    for k in 0..n.div_ceil(128) {
-        let at = 128 * k;
-        let end = n.min(at + 128);
-        let seen = stretch(&before[at..end], &after[at..end]);
+    for (xs, ys) in before.chunks(128).zip(after.chunks(128)) {
+        let seen = stretch(xs, ys);
         count += u32::from(seen.count);
+        if count == 0 {
+            alike += xs.len();
+        }
         largest = largest.max(seen.largest);
-        alike = alike_to(alike, count, end);
     }
     All {
         count,
@@ -85,13 +84,6 @@ fn stretch(before: &[i16], after: &[i16]) -> Seen
         largest = largest.max(d);
     }
     Seen { count, largest }
-}
-
-// As long as no place differs, all are alike up to here.
-fn alike_to(alike: usize, count: u32, end: usize) -> usize
-    ensures { result ≡ alike_to alike count end }
-{
-    if count == 0 { end } else { alike }
 }
 
 // The first place that differs, from `start` on.
