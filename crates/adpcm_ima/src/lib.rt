@@ -29,6 +29,7 @@ pub struct AdpcmImaState {
     pub clipped: u32,
 }
 
+// What a step hands back beside the next state has a name of its own each way, so the two are not one generic struct.
 #[derive(Drop)]
 pub struct Decoded {
     pub sample: i16,
@@ -80,7 +81,7 @@ impl AdpcmImaState {
         Self::new().reload(self.predictor, self.step_index)
     }
 
-    // Equality, by field.
+    // Equality, by field: the derived one, under the name and the contract that callers have.
     pub fn same(self, other: AdpcmImaState) -> bool
         ensures { result ≡ same_state (state_of self) (state_of other) }
     {

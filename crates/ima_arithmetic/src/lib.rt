@@ -73,7 +73,7 @@ pub fn hold(sum: i32, clipped: u32) -> Held
     }
 }
 
-// Where a predictor moves to, and whether that is clipped.
+// Where a predictor moves to, and whether that is clipped: both each time, so it is no Option.
 #[derive(Drop)]
 pub struct Moved {
     pub predictor: i16,

@@ -11,7 +11,8 @@ ghost use Rattle.sweep.specs.Answers.{answer_of, sweep_call};
 use adpcm_ima::{AdpcmImaState, IMA_STEP_TABLE};
 use ima_step::Wide;
 
-// answers[k] is the answer to the sample k - 32768. A buffer that is not of 65,536 numbers is refused by 2, and left alone.
+// answers[k] is the answer to the sample k - 32768. A buffer that is not of 65,536 numbers is refused by 2, and left alone: a number, since C calls this.
+#[tactic(auto, using(num::proofs::Lists::all))]
 #[unsafe(no_mangle)]
 pub extern "C" fn sweep_encode(predictor: i16, step_index: u8, answers: &mut [u32]) -> u8
     ensures { outcome result tt answers.new ≡ sweep_call (state predictor step_index 0) answers.old }
@@ -26,10 +27,8 @@ pub extern "C" fn sweep_encode(predictor: i16, step_index: u8, answers: &mut [u3
         clipped: 0,
     };
     let wide = Wide::from(state);
-    let mut k = 0;
-    while k < answers.len() {
-        answers[k] = answer_of(&steps, wide, sample(k));
-        k += 1;
+    for (k, answer) in answers.iter_mut().enumerate() {
+        *answer = answer_of(&steps, wide, sample(k));
     }
     0
 }

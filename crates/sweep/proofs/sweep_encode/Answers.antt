@@ -1,16 +1,15 @@
 -- A turn writes the next answer, so what is written and then the rest of the answers is all of them. Assumes nothing.
-use Rattle.std.proofs.Common.{◌≡◌, ℕ, ℤ, ap, ◌∙◌, subst, arith, rules, eq-eqb}
+use Rattle.std.proofs.Common.{◌≡◌, ℕ, ap, ◌∙◌, arith, rules}
 use Rattle.std.proofs.Math.IntN.{sub_ℕ}
 use Rattle.std.proofs.Math.ListN.{length-set}
 use Rattle.std.proofs.lemmas.Int.{to_z-of_z}
 use mir.Syntax.{w16}
 use mir.Val.{SFits}
-use Rattle.num.specs.Outcome.{outcome}
-use Rattle.num.proofs.Lists.{Upto, one_more, all}
-use Rattle.ima_nibble.specs.Step.{State, state}
+use Rattle.num.proofs.Lists.{one_more}
+use Rattle.ima_nibble.specs.Step.{State}
 use Rattle.ima_nibble.specs.Table.{ima_steps}
 use Rattle.ima_step.specs.View.{wide_of}
-use Rattle.sweep.specs.Answers.{answer_of, answers_of}
+use Rattle.sweep.specs.Answers.{answer_of}
 use Rattle.sweep.proofs.sweep_encode.Goals as goal
 
 abbrev rule : State → ℕ → ℕ
@@ -28,14 +27,4 @@ loop-k-preserved c =
     record {
       written = one_more (rule w) 65536 k out c.answer_of.result inv.whole (omega arith) is inv.written;
       whole = length-set out k c.answer_of.result ∙ inv.whole;
-      in_range = omega arith;
     }
-
-pub returns : goal.returns
-returns c =
-    let inv = c.loop-k.invariant in
-    let end : c.loop-k.k ≡ 65536 = omega arith in
-    let w = wide_of c.from-wide.result in
-    let done = all (rule w) 65536 c.loop-k.answers inv.whole (subst (Upto (rule w) 65536 c.loop-k.answers) end inv.written) in
-    let from_state = c.from-wide.ensures.0 ∙ ap (λ (p : ℤ). state p c.args.step_index 0) (to_z-of_z w16 _ c.ranges.predictor) in
-    simp (eq-eqb _ _ c.if-answers-ne65536.false) (ap (outcome 0 tt) (done ∙ ap answers_of from_state))

@@ -1,5 +1,5 @@
--- The answers before k are written. Assumes nothing.
-use Rattle.std.proofs.Common.{◌≡◌, ◌-◌, ◌≤◌, length}
+-- The answers before k are written.
+use Rattle.std.proofs.Common.{◌≡◌, length}
 use Rattle.std.proofs.Math.IntN.{sub_ℕ}
 use Rattle.num.proofs.Lists.{Upto}
 use Rattle.ima_nibble.specs.Table.{ima_steps}
@@ -11,8 +11,4 @@ abbrev pub invariant-loop-k : goal.invariant-loop-k
 invariant-loop-k l = record {
   written : Upto (λ k. answer_of ima_steps (wide_of l.wide) (sub_ℕ k 32768)) 65536 l.answers l.k;
   whole : length l.answers ≡ 65536;
-  in_range : l.k ≤ 65536;
 }
-
-abbrev pub decreases-loop-k : goal.decreases-loop-k
-decreases-loop-k l = 65536 - l.k
