@@ -14,7 +14,8 @@ use refusal::Refusal;
 // The most channels that a block has.
 pub const MOST: usize = 8;
 
-// A channel number that is not taken is refused by 1, and then lengths that are not by 2.
+// A channel number that is not taken is refused by 1, and then lengths that are not by 2. What passes is `Taken`, which the decoder and the encoder
+// require of their parts: a type for it would need two equations more, for the lengths of the two slices.
 #[tactic(auto, unfolding(ms_block::specs::Sizes::ms_refusal))]
 pub fn check(channels: usize, bytes: usize, samples: usize) -> Result<(), Refusal>
     ensures { number_in result ≡ ms_refusal channels bytes samples }
