@@ -100,6 +100,7 @@ impl AdpcmImaState {
     }
 
     // Only the lowest four bits of `nibble` count.
+    #[tactic(auto, using(crate::proofs::Narrow::keeps_all), unfolding(ima_nibble::specs::Table::ima_steps))]
     pub fn decode(self, nibble: u8) -> Decoded
         ensures { (state_of result.state ≡ stepped sixteen ima_steps (state_of self) nibble) × (result.sample ≡ result.state.predictor) }
     {
@@ -112,6 +113,7 @@ impl AdpcmImaState {
         }
     }
 
+    #[tactic(auto, using(crate::proofs::Narrow::keeps_all), unfolding(ima_nibble::specs::Table::ima_steps))]
     pub fn encode(self, sample: i16) -> Encoded
         ensures { (result.nibble ≡ emitted sixteen ima_steps (state_of self) sample) × (state_of result.state ≡ stepped sixteen ima_steps (state_of self) result.nibble) }
     {

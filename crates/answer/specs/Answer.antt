@@ -1,6 +1,5 @@
 -- What the programs `repack` and `repack_lenient` print: the one reads strictly, and the other leniently. Assumes nothing.
-use Rattle.std.specs.Prelude.{Bool, cond, List, ◌++◌, ℕ, eqb, length}
-use Rattle.std.proofs.Math.Option.{Option}
+use Rattle.std.specs.Prelude.{Bool, cond, List, ◌++◌, Option, ℕ, eqb, length}
 use Rattle.ms_block.specs.declared.Reading.{Reading}
 use Rattle.ms_block.specs.Readings.{read_by}
 use Rattle.ms_block.specs.Sizes.{repack_refusal}

@@ -16,56 +16,27 @@ pub fn states_of(
 ) -> [AdpcmImaState; MOST]
     ensures { map state_of result ≡ states_of predictors step_indices clipped }
 {
-    let mut states = [AdpcmImaState::new(); MOST];
-    let mut e = 0;
-    while e < MOST {
-        let predictor = predictors[e];
-        states[e] = AdpcmImaState {
-            predictor,
-            step_index: step_indices[e],
-            clipped: clipped[e],
-        };
-        e += 1;
-    }
-    states
+    std::array::from_fn(|e| AdpcmImaState {
+        predictor: predictors[e],
+        step_index: step_indices[e],
+        clipped: clipped[e],
+    })
 }
 
 pub fn predictors_of(states: [AdpcmImaState; MOST]) -> [i16; MOST]
     ensures { result ≡ predictors_of (map state_of states) }
 {
-    let mut predictors = [0; MOST];
-    let mut e = 0;
-    while e < MOST {
-        let state = states[e];
-        let predictor = state.predictor;
-        predictors[e] = predictor;
-        e += 1;
-    }
-    predictors
+    states.map(|state| state.predictor)
 }
 
 pub fn step_indices_of(states: [AdpcmImaState; MOST]) -> [u8; MOST]
     ensures { result ≡ indices_of (map state_of states) }
 {
-    let mut step_indices = [0; MOST];
-    let mut e = 0;
-    while e < MOST {
-        let state = states[e];
-        step_indices[e] = state.step_index;
-        e += 1;
-    }
-    step_indices
+    states.map(|state| state.step_index)
 }
 
 pub fn clipped_of(states: [AdpcmImaState; MOST]) -> [u32; MOST]
     ensures { result ≡ counts_of (map state_of states) }
 {
-    let mut clipped = [0; MOST];
-    let mut e = 0;
-    while e < MOST {
-        let state = states[e];
-        clipped[e] = state.clipped;
-        e += 1;
-    }
-    clipped
+    states.map(|state| state.clipped)
 }

@@ -1,2 +1,3 @@
 pub mod Kept
 pub mod Read
+pub mod Lengths

@@ -3,7 +3,7 @@ ghost use Rattle.std.specs.Prelude.{◌≡◌};
 ghost use Rattle.g711.specs.Law.{a_law, sample_of, code_of};
 
 use crate::code_word;
-use num::{complement, larger};
+use num::complement;
 
 // decoding table, as the Rust has it
 const ALAW_VALUES: [i16; 256] = [
@@ -35,11 +35,12 @@ pub fn decode_alaw(encoded: u8) -> i16
 }
 
 // Encodes a linear 16-bit signed sample to an 8-bit G.711 A-law value.
+#[tactic(auto, using(crate::proofs::Lengths::lengths), unfolding(crate::specs::Law::code_of, crate::specs::Law::segment, crate::specs::Law::four_bits))]
 pub fn encode_alaw(linear: i16) -> u8
     ensures { result ≡ code_of a_law linear }
 {
     let inputval = complement(linear >> 3);
-    let bits = 32 - u32::leading_zeros(inputval);
-    let segment = larger(5, bits) - 5;
-    code_word(linear, segment, (inputval >> larger(1, segment)) % 16, 0xd5)
+    let bits = 32 - inputval.leading_zeros();
+    let segment = bits.max(5) - 5;
+    code_word(linear, segment, (inputval >> segment.max(1)) % 16, 0xd5)
 }

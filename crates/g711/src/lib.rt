@@ -1,4 +1,5 @@
-// The two companding laws of ITU-T G.711, with the Rust's names.
+// The two companding laws of ITU-T G.711, with the Rust's names. They stay two pairs of calls, since C has both, and since their formulas differ: what they
+// share is `code_word`.
 #![tactic(auto)]
 
 mod alaw;

@@ -34,6 +34,7 @@ pub fn decode_ulaw(encoded: u8) -> i16
 }
 
 // Encodes a linear 16-bit signed sample to an 8-bit G.711 mu-law value.
+#[tactic(auto, using(crate::proofs::Lengths::lengths), unfolding(crate::specs::Law::code_of, crate::specs::Law::segment, crate::specs::Law::four_bits))]
 pub fn encode_ulaw(linear: i16) -> u8
     ensures { result ≡ code_of mu_law linear }
 {
@@ -41,6 +42,6 @@ pub fn encode_ulaw(linear: i16) -> u8
     if inputval > 8191 {
         return code_word(linear, 7, 15, 0xff);
     }
-    let segment = 32 - u32::leading_zeros(inputval) - 6;
+    let segment = 32 - inputval.leading_zeros() - 6;
     code_word(linear, segment, (inputval >> (segment + 1)) % 16, 0xff)
 }

@@ -7,7 +7,7 @@ ghost use Rattle.num.specs.Clamp as Clamp;
 ghost use Rattle.ima_nibble.specs.Step as Step;
 ghost use Rattle.ima_nibble.specs.Step.{m, sum_of, greedy, tallied};
 
-use num::{clamp, lesser_u32, outside};
+use num::{clamp, outside};
 
 pub fn part(bit: u32, x: u32) -> u32
     ensures { (result ≡ Step.part (eqb (bit % 2) 1) x) × (result ≤ x) }
@@ -34,6 +34,7 @@ pub fn takes(r: u32, x: u32) -> u32
 }
 
 // What the greedy taking takes is the difference without what it leaves.
+#[tactic(auto, using(ima_nibble::proofs::Fused::took), unfolding(ima_nibble::specs::Step::m))]
 pub fn greedy_take(s: u32, r: u32) -> u32
     ensures { (result ≡ m s (greedy s r)) × (result ≤ 2 * s) }
 {
@@ -54,6 +55,7 @@ pub struct Held {
 }
 
 // A sum that is not outside is taken as it is, by one test; clamping and counting are for the others.
+#[tactic(auto, unfolding(num::specs::Clamp::outside))]
 pub fn hold(sum: i32, clipped: u32) -> Held
     ensures { (result.predictor ≡ Clamp.clamp (negsuc 32767) (pos 32767) sum) × (result.clipped ≡ tallied 4294967295 (Clamp.outside (negsuc 32767) (pos 32767) sum) clipped) }
 {
@@ -79,11 +81,12 @@ pub struct Moved {
 }
 
 // The predictor goes no further than the room on that side, so its sum needs no clamp. One that would go further clips.
+#[tactic(auto, unfolding(num::specs::Clamp::outside))]
 pub fn towards(predictor: i16, negative: bool, d: u32) -> Moved
     ensures { (result.predictor ≡ Clamp.clamp (negsuc 32767) (pos 32767) (sum_of negative predictor d)) × (result.clips ≡ Clamp.outside (negsuc 32767) (pos 32767) (sum_of negative predictor d)) }
 {
     let room = room(predictor, negative);
-    let by = lesser_u32(d, room) as i32;
+    let by = d.min(room) as i32;
     let clips = room < d;
     if negative {
         let lower = (predictor as i32 - by) as i16;
@@ -114,5 +117,5 @@ fn room(predictor: i16, negative: bool) -> u32
 pub fn tally(count: u32, clips: bool) -> u32
     ensures { result ≡ tallied 4294967295 clips count }
 {
-    count + lesser_u32(clips as u32, 4294967295 - count)
+    count.saturating_add(u32::from(clips))
 }

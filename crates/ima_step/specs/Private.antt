@@ -1,7 +1,11 @@
--- What a private function promises of two sums, one behind the other. Assumes nothing.
-use Rattle.std.specs.Prelude.{◌≡◌, Bool, ℕ, ℤ, pos, negsuc, ◌+ℤ◌}
+-- What private functions promise of a nibble's change, and of two sums, one behind the other. Assumes nothing.
+use Rattle.std.specs.Prelude.{◌≡◌, Bool, cond, ℕ, ℤ, pos, negsuc, neg_ℤ, ◌+ℤ◌}
 use Rattle.num.specs.Clamp.{clamp, outside}
-use Rattle.ima_nibble.specs.Step.{tallied}
+use Rattle.ima_nibble.specs.Step.{bit, d, tallied}
+
+-- What a nibble adds to a predictor: d, or d negated.
+abbrev pub change : ℕ → ℕ → ℤ
+change s v = cond (bit 8 v) (neg_ℤ (pos (d s v))) (pos (d s v))
 
 abbrev pub held : ℤ → ℤ
 held x = clamp (negsuc 32767) (pos 32767) x

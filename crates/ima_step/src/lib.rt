@@ -10,8 +10,7 @@ ghost use Rattle.ima_step.specs.View.{wide_of};
 
 use halves::{high_nibble, low_nibble};
 use ima_arithmetic::{difference, greedy_take, hold, sign, takes, tally, towards};
-use nibble::{absolute, change, exact_sum, next_index, raise_index, reach_count, step};
-use num::lesser;
+use nibble::{Change, Place, reach_count};
 use sums::hold_both;
 
 // A predictor, an index that needs no widening before it is a place in the table, and the count of clipped steps. Any index is taken: one above 88 is
@@ -39,13 +38,13 @@ pub struct Coded {
 
 impl Wide {
     // Only the lowest four bits of `nibble` count. The sample that it decodes to is the new predictor.
+    #[tactic(auto, unfolding(ima_nibble::specs::Step::stepped, ima_nibble::specs::Step::step_at, ima_nibble::specs::Step::predicted))]
     pub fn decode_step(self, steps: &[u16; 89], nibble: u32) -> Self
         ensures { wide_of result ≡ stepped sixteen steps.now (wide_of self) nibble }
     {
-        let place = lesser(self.index, 88);
-        let s = step(steps, place);
-        let sum = exact_sum(s, self.predictor, nibble);
-        let index = next_index(place, nibble);
+        let place = Place::at(self.index);
+        let sum = Change::of(place.step(steps), nibble).added_to(self.predictor);
+        let index = place.next(nibble).index;
         let held = hold(sum, self.clipped);
         Self {
             predictor: held.predictor,
@@ -61,39 +60,40 @@ impl Wide {
     {
         let low = low_nibble(byte);
         let high = high_nibble(byte);
-        let first = lesser(self.index, 88);
-        let sum = exact_sum(step(steps, first), self.predictor, low);
-        let between = next_index(first, low);
-        let x = change(step(steps, between), high);
-        hold_both(sum, x, self.clipped)
+        let first = Place::at(self.index);
+        let between = first.next(low);
+        let one = Change::of(first.step(steps), low);
+        let two = Change::of(between.step(steps), high);
+        hold_both(self.predictor, one, two, self.clipped)
     }
 
     // The index behind both nibbles of a byte.
     pub fn index_after(self, byte: u8) -> usize
         ensures { result ≡ indexed 88 (indexed 88 (min self.index 88) (byte % 16)) (byte / 16) }
     {
-        let first = lesser(self.index, 88);
-        let between = next_index(first, low_nibble(byte));
-        next_index(between, high_nibble(byte))
+        let first = Place::at(self.index);
+        let between = first.next(low_nibble(byte));
+        between.next(high_nibble(byte)).index
     }
 
     // The nibble of a sample, and the state behind it, with what both need found once.
     pub fn encode_step(self, steps: &[u16; 89], sample: i16) -> Coded
         ensures { (result.nibble ≡ emitted sixteen steps.now (wide_of self) sample) × (result.nibble < 16) × (wide_of result.next ≡ stepped sixteen steps.now (wide_of self) result.nibble) }
     {
-        let index = lesser(self.index, 88);
-        let s = step(steps, index);
+        let from = Place::at(self.index);
+        let s = from.step(steps);
         let x = difference(self.predictor, sample);
-        let r = absolute(x);
+        let r = x.unsigned_abs();
         let above = reach_count(s, s, r);
-        let four = takes(r, s);
+        let four = takes(r, u32::from(s));
         let nibble = sign(x) + reach_count(0, s, r) + four + above;
-        let moved = towards(self.predictor, x < 0, greedy_take(s, r) + s / 8);
+        let d = greedy_take(u32::from(s), r) + u32::from(s / 8);
+        let moved = towards(self.predictor, x < 0, d);
         Coded {
             nibble,
             next: Self {
                 predictor: moved.predictor,
-                index: raise_index(index, four, above),
+                index: from.raise(four, above).index,
                 clipped: tally(self.clipped, moved.clips),
             },
         }

@@ -1,86 +1,92 @@
-// The arithmetic of one nibble from a step of the table and an index that is held.
-ghost use Rattle.std.specs.Prelude.{◌≡◌, cond, ◌+◌, ◌-◌, ◌*◌, ◌/◌, ◌≤◌, ◌<◌, min, pos, neg_ℤ, nat_abs, ◌+ℤ◌, get_or};
+// The arithmetic of one nibble from an index that is held and a step of the table.
+ghost use Rattle.std.specs.Prelude.{◌≡◌, ◌+◌, ◌-◌, ◌*◌, ◌/◌, ◌≤◌, ◌<◌, min, ◌+ℤ◌, get_or};
 ghost use Rattle.std.specs.Int.Signed.{mag};
 ghost use Rattle.ima_nibble.specs.Step as Step;
-ghost use Rattle.ima_nibble.specs.Step.{bit, d, exact_sum, indexed};
+ghost use Rattle.ima_nibble.specs.Step.{d, indexed};
+ghost use Rattle.ima_step.specs.Private.{change};
 
 use ima_arithmetic::{part, takes};
-use num::{lesser, monus};
 
-pub(crate) fn step(steps: &[u16; 89], index: usize) -> u32
-    requires { index ≤ 88 }
-    ensures { (result ≡ get_or steps.now index 0) × (result < 65536) }
-{
-    extend(steps[index])
+// A place in the table: an index that is held at 88.
+#[derive(Clone, Copy)]
+pub(crate) struct Place {
+    pub(crate) index: usize,
+    ghost held: { index ≤ 88 },
 }
 
-// Of an entry behind a reference nothing is known, of an argument that it fits its type.
-fn extend(x: u16) -> u32
-    ensures { (result ≡ x) × (result < 65536) }
-{
-    x as u32
+impl Place {
+    pub(crate) fn at(index: usize) -> Self
+        ensures { result.index ≡ min index 88 }
+    {
+        Self {
+            index: index.min(88),
+        }
+    }
+
+    pub(crate) fn step(self, steps: &[u16; 89]) -> u16
+        ensures { result ≡ get_or steps.now self.index 0 }
+    {
+        steps[self.index]
+    }
+
+    // The move of a nibble with bit 4 is twice its two lower bits and 2, and that of any other -1. Both are one less than what is added.
+    #[tactic(auto, using(ima_nibble::proofs::Held::hold))]
+    pub(crate) fn next(self, nibble: u32) -> Self
+        ensures { result.index ≡ indexed 88 self.index nibble }
+    {
+        let raised = self.index + part(nibble / 4, 2 * (nibble % 4) + 3) as usize;
+        Self::at(raised.saturating_sub(1))
+    }
+
+    // A magnitude of 4 and more is 4 and what is reached above the step. What is added is one more than the move, as in `next`.
+    pub(crate) fn raise(self, four: u32, above: u32) -> Self
+        requires { (four ≤ 1) × (above ≤ 3) }
+        ensures { result.index ≡ min (self.index + (3 * four + 2 * above) - 1) 88 }
+    {
+        let raised = self.index + (3 * four + 2 * above) as usize;
+        Self::at(raised.saturating_sub(1))
+    }
 }
 
-pub(crate) fn exact_sum(s: u32, predictor: i16, nibble: u32) -> i32
-    requires { s < 65536 }
-    ensures { (result ≡ exact_sum s predictor nibble) × (mag result ≤ 163840) }
-{
-    total(predictor, change(s, nibble))
+// What a nibble adds to a predictor: few enough to be added twice.
+#[derive(Clone, Copy)]
+pub(crate) struct Change {
+    pub(crate) by: i32,
+    ghost small: { mag by ≤ 131072 },
 }
 
-pub(crate) fn total(predictor: i16, x: i32) -> i32
-    requires { mag x ≤ 131072 }
-    ensures { (result ≡ predictor +ℤ x) × (mag result ≤ 163840) }
-{
-    predictor as i32 + x
+impl Change {
+    // Bit 8 subtracts, otherwise it is added.
+    pub(crate) fn of(s: u16, nibble: u32) -> Self
+        ensures { result.by ≡ change s nibble }
+    {
+        let d = size(s, nibble) as i32;
+        let by = if nibble / 8 % 2 == 1 { 0 - d } else { d };
+        Self { by }
+    }
+
+    pub(crate) fn added_to(self, predictor: i16) -> i32
+        ensures { (result ≡ predictor +ℤ self.by) × (mag result ≤ 163840) }
+    {
+        predictor as i32 + self.by
+    }
 }
 
-// Bit 8 subtracts, otherwise it is added.
-pub(crate) fn change(s: u32, nibble: u32) -> i32
-    requires { s < 65536 }
-    ensures { (result ≡ cond (bit 8 nibble) (neg_ℤ (pos (d s nibble))) (pos (d s nibble))) × (mag result ≤ 131072) }
-{
-    let d = size(s, nibble) as i32;
-    if nibble / 8 % 2 == 1 { 0 - d } else { d }
-}
-
-fn size(s: u32, nibble: u32) -> u32
-    requires { s < 65536 }
+#[tactic(auto, unfolding(ima_nibble::specs::Step::m))]
+fn size(s: u16, nibble: u32) -> u32
     ensures { (result ≡ d s nibble) × (result < 131072) }
 {
+    let s = u32::from(s);
     let m = part(nibble / 4, s) + part(nibble / 2, s / 2) + part(nibble, s / 4);
     m + s / 8
 }
 
-// The move of a nibble with bit 4 is twice its two lower bits and 2, and that of any other -1. Both are one less than what is added.
-pub(crate) fn next_index(index: usize, nibble: u32) -> usize
-    requires { index ≤ 88 }
-    ensures { (result ≡ indexed 88 index nibble) × (result ≤ 88) }
-{
-    let raised = index + part(nibble / 4, 2 * (nibble % 4) + 3) as usize;
-    lesser(monus(raised, 1), 88)
-}
-
-// A magnitude of 4 and more is 4 and what is reached above the step. What is added is one more than the move, as in `next_index`.
-pub(crate) fn raise_index(index: usize, four: u32, above: u32) -> usize
-    requires { (index ≤ 88) × (four ≤ 1) × (above ≤ 3) }
-    ensures { result ≡ min (index + (3 * four + 2 * above) - 1) 88 }
-{
-    lesser(monus(index + (3 * four + 2 * above) as usize, 1), 88)
-}
-
-pub(crate) fn absolute(x: i32) -> u32
-    requires { mag x < 131072 }
-    ensures { result ≡ nat_abs x }
-{
-    if x < 0 { (0 - x) as u32 } else { x as u32 }
-}
-
 // What the greedy taking gives is how many of the seven sums of parts the difference reaches: s, and three below and three above it. Counting them
 // asks for no branch. How many of a + s/4, a + s/2 and a + s/2 + s/4 it reaches:
-pub(crate) fn reach_count(a: u32, s: u32, r: u32) -> u32
-    requires { (a < 65536) × (s < 65536) }
+pub(crate) fn reach_count(a: u16, s: u16, r: u32) -> u32
     ensures { (result ≡ Step.part (Step.takes r (a + s / 4)) 1 + Step.part (Step.takes r (a + s / 2)) 1 + Step.part (Step.takes r (a + s / 2 + s / 4)) 1) × (result ≤ 3) }
 {
+    let a = u32::from(a);
+    let s = u32::from(s);
     takes(r, a + s / 4) + takes(r, a + s / 2) + takes(r, a + s / 2 + s / 4)
 }

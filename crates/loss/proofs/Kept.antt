@@ -1,17 +1,19 @@
 -- What is kept of the places that were looked at, put together with what the definitions say of the rest, is what they say of all places.
 -- Assumes nothing.
-use mathlib.Core.Path.{◌≡◌, refl, sym, ap, ap₂, ◌∙◌, subst}
+use mathlib.Core.Path.{◌≡◌, refl, sym, ap, ap₂, ◌∙◌}
 use mathlib.Core.List.{List, ◌++◌}
 use Prim.Native.Nat.{ℕ, ◌+◌, ◌-◌, ◌≤◌, ◌<◌, max}
 use native.Mathlib.Omega.{arith}
-use lib.Dec.{T, eqb}
+use mathlib.Core.Bool.{cond}
+use lib.Dec.{eqb}
 use lib.IntN.{ℤ, pos}
 use lib.ListN.{length, get_or, take, drop, length-take, length-drop}
 use lib.Seq.{drop-drop}
-use borrow.Author.Tests.{eqb-true, eq-eqb}
+use borrow.Author.Tests.{eqb-true}
+use Rattle.std.proofs.lemmas.Bool.{eqb-false}
 use borrow.Table.Steps.{cases}
 use Rattle.loss.specs.Loss.{distance, distances, count_of, first_from, first_of, largest}
-use Rattle.loss.specs.Private.{differing, alike_to, rest, Sees}
+use Rattle.loss.specs.Private.{alike_to, rest, Sees}
 use Rattle.loss.proofs.Places.{count-append, largest-append, first-behind, parted, distances-length, turn, gone}
 
 module _ (xs ys : List ℤ) where
@@ -34,14 +36,14 @@ module _ (xs ys : List ℤ) where
     -- one place more
     pub one_more : {count most d one most' : ℕ} → i < length xs → Kept count most i
         → d ≡ distance (get_or xs i (pos 0)) (get_or ys i (pos 0))
-        → one ≡ differing d
+        → one ≡ cond (eqb d 0) 0 1
         → most' ≡ max most d
         → Kept (count + one) most' (i + 1)
     unfolding count_of largest
     one_more h k d-is one-is most-is =
         let counts = ap count_of (turn xs ys same i h) in
         let tops = ap largest (turn xs ys same i h) in
-        let one_of_lem = one-is ∙ ap differing d-is in
+        let one_of_lem = one-is ∙ ap (λ (n : ℕ). cond (eqb n 0) 0 1) d-is in
         record { many = omega (arith, k.many); top = omega (arith, k.top) }
 
     pub all : {count most : ℕ} → length xs ≤ i → Kept count most i → Sees (distances xs ys) count most
@@ -96,4 +98,4 @@ module _ (xs ys : List ℤ) where
           })
           (λ t.
           let to : alike' ≡ alike = rw t at is in
-          record { first = from-there alike' alike to ∙ l.first; even = λ e. absurd (subst T (sym (eq-eqb (count + c) 0 e) ∙ t) tt) })
+          record { first = from-there alike' alike to ∙ l.first; even = λ e. absurd (eqb-false (count + c) 0 t e) })

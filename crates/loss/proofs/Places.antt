@@ -1,7 +1,10 @@
 -- What the definitions say of two samples, and of two runs: of one place and of those behind it, and of a stretch and of what is behind that. Assumes nothing.
 use mathlib.Core.Path.{◌≡◌, refl, sym, ap, ap₂, ◌∙◌}
 use mathlib.Core.List.{List, [], ◌∷◌, ◌++◌}
-use mathlib.Core.Option.{Option, none, some}
+use native.Mathlib.Nat.{add-zero}
+use Rattle.std.specs.Prelude.{Option, option_map, position, zip}
+use Rattle.std.specs.List.{position_from}
+use Rattle.std.proofs.lemmas.Iterator.Adapters.{position_from-zero}
 use Prim.Native.Nat.{ℕ, zero, suc, ◌+◌, ◌≤◌, ◌<◌, max}
 use native.Mathlib.Numerals.{add-one}
 use native.Mathlib.Omega.{arith}
@@ -12,12 +15,12 @@ use lib.Seq.{drop-cons}
 use mir.Syntax.{w16}
 use mir.Val.{SFits, to_z, of_z}
 use mir.ValLaws.{to_z-of_z}
-use borrow.Author.Tests.{le-leb, eq-eqb, ne_eqb}
+use borrow.Author.Tests.{le-leb, eq-eqb}
 use borrow.Table.Steps.{cases}
 use Rattle.num.specs.Outcome.{outcome}
 use Rattle.num.proofs.Signed.{apart-le}
 use Rattle.loss.specs.Loss.{distance, distances, count_of, first_from, first_of, largest, report, report_of, loss_report}
-use Rattle.loss.specs.Private.{rest, Sees}
+use Rattle.loss.specs.Private.{differ, rest, Sees}
 
 -- ---- two samples
 
@@ -52,6 +55,22 @@ first-behind (d ∷ ds) es i e =
 
 -- ---- two runs
 
+from-place : (xs ys : List ℤ) (start i : ℕ) → option_map (λ k. start + k) (position_from differ i (zip xs ys)) ≡ first_from (start + i) (distances xs ys)
+unfolding distances first_from
+from-place [] ys start i = refl
+from-place (x ∷ xs) [] start i = refl
+from-place (x ∷ xs) (y ∷ ys) start i =
+    cases (eqb (distance x y) 0)
+    (λ t. rw t (from-place xs ys start (i + 1) ∙ ap (λ (n : ℕ). first_from n (distances xs ys)) (omega arith)))
+    (λ t. rw t refl)
+
+-- the first place is the first pair of two that differ
+pub first-place : (xs ys : List ℤ) (start : ℕ) → option_map (λ k. start + k) (position differ (zip xs ys)) ≡ first_from start (distances xs ys)
+first-place xs ys start =
+    ap (option_map (λ k. start + k)) (position_from-zero differ (zip xs ys))
+    ∙ from-place xs ys start 0
+    ∙ ap (λ (n : ℕ). first_from n (distances xs ys)) (add-zero start)
+
 no_second : (xs : List ℤ) → distances xs [] ≡ []
 unfolding distances
 no_second [] = refl
@@ -80,20 +99,6 @@ module _ (xs ys : List ℤ) (same : length xs ≡ length ys) where
   pub gone : (i : ℕ) → length xs ≤ i → rest xs ys i ≡ []
   unfolding distances
   gone i h = ap (λ (zs : List ℤ). distances zs (drop i ys)) (drop_of_length-le xs h)
-
-  -- whether the first is here
-  module _ (i : ℕ) (h : i < length xs) {d : ℕ} (d-is : d ≡ distance (get_or xs i (pos 0)) (get_or ys i (pos 0))) where
-    pub here : (d ≡ 0 → ⊥) → first_from i (rest xs ys i) ≡ some i
-    unfolding first_from
-    here differs = ap (first_from i) (turn i h) ∙ rw (← d-is, ne_eqb d 0 differs) refl
-
-    pub not-here : d ≡ 0 → first_from i (rest xs ys i) ≡ first_from (i + 1) (rest xs ys (i + 1))
-    unfolding first_from
-    not-here e = ap (first_from i) (turn i h) ∙ rw (← d-is, eq-eqb d 0 e, add-one i) refl
-
-  pub nowhere : (i : ℕ) → length xs ≤ i → first_from i (rest xs ys i) ≡ none
-  unfolding first_from
-  nowhere i h = ap (first_from i) (gone i h)
 
   -- that are taken
   module _ (few : length xs ≤ 131063) where

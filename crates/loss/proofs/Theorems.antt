@@ -1,7 +1,7 @@
 -- What the report says of equal runs, and of no others; and that its peak is the true one. Assumes nothing.
 use mathlib.Core.Path.{◌≡◌, refl, sym, ap, ap₂, ◌∙◌}
 use mathlib.Core.List.{List, [], ◌∷◌}
-use mathlib.Core.Option.{Option, none, some, some-injective, some-ne-none}
+use Rattle.std.specs.Prelude.{Option, None, Some, Result}
 use Prim.Native.Nat.{ℕ, zero, suc, ◌≤◌}
 use native.Mathlib.Omega.{arith}
 use lib.Dec.{eqb, leb}
@@ -15,8 +15,10 @@ use Rattle.num.specs.Lists.{All}
 use Rattle.num.specs.Outcome.{Outcome, outcome, Faithful}
 use Rattle.num.proofs.Lists.{all-at}
 use Rattle.loss.specs.declared.Loss.{Loss}
-use Rattle.loss.specs.declared.First.TheVariants.{At, Nowhere}
-use Rattle.loss.specs.Loss.{Report, place_of, distance, distances, count_of, first_from, largest, report, report_of, loss_report}
+use Rattle.refusal.specs.declared.Refusal.{Refusal}
+use Rattle.refusal.specs.Refusal.{answered}
+use Rattle.refusal.proofs.Coincide.{answered-coincide}
+use Rattle.loss.specs.Loss.{Report, report_in, distance, distances, count_of, first_from, largest, report, report_of, loss_report}
 use Rattle.loss.proofs.Places.{distance-lt, taken}
 
 -- ---- two samples
@@ -44,7 +46,7 @@ none_differ (x ∷ xs) (y ∷ ys) l e =
     (λ t. absurd (omega (arith, rw t at e)))
 
 nothing : (xs : List ℤ) (i : ℕ)
-    → (count_of (distances xs xs) ≡ 0) × (first_from i (distances xs xs) ≡ none) × (largest (distances xs xs) ≡ 0)
+    → (count_of (distances xs xs) ≡ 0) × (first_from i (distances xs xs) ≡ None) × (largest (distances xs xs) ≡ 0)
 unfolding distances count_of first_from largest
 nothing [] i = (refl, refl, refl)
 nothing (x ∷ xs) i = let (c, f, l) = nothing xs (suc i) in rw (itself x) (omega arith, f, omega arith)
@@ -55,7 +57,7 @@ module _ (xs ys : List ℤ) (same : length xs ≡ length ys) (few : length xs �
   equal-if-none e = none_differ xs ys same (ap (λ r. r.back.count) (sym (taken xs ys same few)) ∙ e)
 
   -- and where they are, nothing is reported: no place differs, there is no first one, and the peak is 0.
-  pub none-if-equal : xs ≡ ys → loss_report xs ys ≡ outcome 0 (report 0 none 0) tt
+  pub none-if-equal : xs ≡ ys → loss_report xs ys ≡ outcome 0 (report 0 None 0) tt
   none-if-equal e =
       let (c, f, l) = nothing xs 0 in
       taken xs ys same few ∙ ap (λ (zs : List ℤ). outcome 0 (report_of (distances xs zs)) tt) (sym e) ∙ rw (c, f, l) refl
@@ -110,32 +112,23 @@ module _ (xs ys : List ℤ) (same : length xs ≡ length ys) (few : length xs �
       omega (arith, s.apart, distance-lt p q)
 
 -- and a click from one end to the other is that, either way round.
-pub click-up : loss_report (negsuc 32767 ∷ []) (pos 32767 ∷ []) ≡ outcome 0 (report 1 (some 0) 65535) tt
+pub click-up : loss_report (negsuc 32767 ∷ []) (pos 32767 ∷ []) ≡ outcome 0 (report 1 (Some 0) 65535) tt
 unfolding loss_report distances count_of first_from largest
 click-up = refl
 
-pub click-down : loss_report (pos 32767 ∷ []) (negsuc 32767 ∷ []) ≡ outcome 0 (report 1 (some 0) 65535) tt
+pub click-down : loss_report (pos 32767 ∷ []) (negsuc 32767 ∷ []) ≡ outcome 0 (report 1 (Some 0) 65535) tt
 unfolding loss_report distances count_of first_from largest
 click-down = refl
 
 -- ---- one result
 
--- The view of a first place loses nothing.
-pub place-faithful : Faithful place_of
-place-faithful (At k) (At l) e = ap At (some-injective k l e)
-place-faithful (At k) Nowhere e = absurd (some-ne-none k e)
-place-faithful Nowhere (At l) e = absurd (some-ne-none l (sym e))
-place-faithful Nowhere Nowhere e = refl
+-- The view of the struct loses nothing.
+pub loss-faithful : Faithful report_in
+loss-faithful x y e = λ i. record { count = (e i).count; first = (e i).first; peak = (e i).peak }
 
 -- Two results that the report allows for one input coincide.
-pub loss-coincide : (allowed : Outcome (Report (Option ℕ)) Unit) (r s : Loss)
-    → outcome r.refusal (report r.count (place_of r.first) r.peak) tt ≡ allowed
-    → outcome s.refusal (report s.count (place_of s.first) s.peak) tt ≡ allowed
+pub loss-coincide : (allowed : Outcome (Report (Option ℕ)) Unit) (r s : Result Loss Refusal)
+    → answered report_in (report 0 None 0) r tt ≡ allowed
+    → answered report_in (report 0 None 0) s tt ≡ allowed
     → r ≡ s
-loss-coincide allowed r s is is' =
-    let same = is ∙ sym is' in
-    let number = ap (λ o. o.number) same in
-    let count = ap (λ o. o.back.count) same in
-    let first = place-faithful r.first s.first (ap (λ o. o.back.first) same) in
-    let peak = ap (λ o. o.back.peak) same in
-    λ i. record { refusal = number i; count = count i; first = first i; peak = peak i }
+loss-coincide allowed r s is is' = (answered-coincide report_in loss-faithful allowed (report 0 None 0) r s tt tt is is').0

@@ -1,9 +1,7 @@
 -- The loss report of two sample runs. Assumes nothing.
-use Rattle.std.specs.Prelude.{cond, ◌&&◌, List, [], ◌∷◌, ℕ, suc, ◌+◌, max, eqb, leb, ℤ, nat_abs, ◌-ℤ◌, length}
-use Rattle.std.proofs.Math.Option.{Option, none, some}
+use Rattle.std.specs.Prelude.{cond, ◌&&◌, List, [], ◌∷◌, Option, None, Some, ℕ, suc, ◌+◌, max, eqb, leb, ℤ, nat_abs, ◌-ℤ◌, length}
 use Rattle.num.specs.Outcome.{Outcome, outcome_by}
-use Rattle.loss.specs.declared.First.{First}
-use Rattle.loss.specs.declared.First.TheVariants.{At, Nowhere}
+use Rattle.loss.specs.declared.Loss.{Loss}
 
 -- The absolute difference of two samples, and those of two runs, place by place.
 abbrev pub distance : ℤ → ℤ → ℕ
@@ -21,8 +19,8 @@ count_of (d ∷ ds) = cond (eqb d 0) 0 1 + count_of ds
 
 -- the first of them counted from 0 (or none),
 unfoldable pub first_from : ℕ → List ℕ → Option ℕ
-first_from i [] = none
-first_from i (d ∷ ds) = cond (eqb d 0) (first_from (suc i) ds) (some i)
+first_from i [] = None
+first_from i (d ∷ ds) = cond (eqb d 0) (first_from (suc i) ds) (Some i)
 
 abbrev pub first_of : List ℕ → Option ℕ
 first_of ds = first_from 0 ds
@@ -32,11 +30,6 @@ unfoldable pub largest : List ℕ → ℕ
 largest [] = 0
 largest (d ∷ ds) = max d (largest ds)
 
--- The enum of the code: a place from 0, or none.
-abbrev pub place_of : First → Option ℕ
-place_of (At k) = some k
-place_of Nowhere = none
-
 -- The report: how many places differ, the first of them, and the peak. The first is a place or none here, and a number over C.
 pub record Report (Place : Type 0) : Type 0 where
   pub count : ℕ
@@ -45,6 +38,10 @@ pub record Report (Place : Type 0) : Type 0 where
 
 abbrev pub report : {Place : Type 0} → ℕ → Place → ℕ → Report Place
 report count first peak = record { count = count; first = first; peak = peak }
+
+-- What the struct of the code says.
+abbrev pub report_in : Loss → Report (Option ℕ)
+report_in loss = report loss.count loss.first loss.peak
 
 -- The peak is the true one: the largest difference, whatever it is.
 abbrev pub report_of : List ℕ → Report (Option ℕ)
@@ -57,4 +54,4 @@ loss_refusal n m = cond (eqb n m && leb n 131063) 0 2
 -- and then there is nothing to report.
 unfoldable pub loss_report : List ℤ → List ℤ → Outcome (Report (Option ℕ)) Unit
 loss_report before after =
-    outcome_by (loss_refusal (length before) (length after)) (report_of (distances before after), tt) (report 0 none 0, tt)
+    outcome_by (loss_refusal (length before) (length after)) (report_of (distances before after), tt) (report 0 None 0, tt)

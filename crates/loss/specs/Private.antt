@@ -1,10 +1,6 @@
 -- What only private functions and loops need: what the code keeps while it looks. Assumes nothing.
-use Rattle.std.specs.Prelude.{◌≡◌, cond, List, ℕ, eqb, ℤ, drop}
-use Rattle.loss.specs.Loss.{distances, count_of, largest}
-
--- What a place adds to the count.
-abbrev pub differing : ℕ → ℕ
-differing d = cond (eqb d 0) 0 1
+use Rattle.std.specs.Prelude.{◌≡◌, Bool, not, cond, List, ℕ, eqb, ℤ, drop}
+use Rattle.loss.specs.Loss.{distance, distances, count_of, largest}
 
 -- Two numbers that tell how many places differ, and by how much at most.
 pub record Sees (ds : List ℕ) (count most : ℕ) : Type 0 where
@@ -18,3 +14,7 @@ rest xs ys i = distances (drop i xs) (drop i ys)
 -- and how many are known to be alike, where so many differ of those up to the end.
 abbrev pub alike_to : ℕ → ℕ → ℕ → ℕ
 alike_to alike count end = cond (eqb count 0) end alike
+
+-- Whether two samples differ.
+abbrev pub differ : ℤ × ℤ → Bool
+differ p = not (eqb (distance p.0 p.1) 0)

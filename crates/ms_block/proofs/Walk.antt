@@ -1,6 +1,6 @@
 -- Where the three loops stand, over the groups of a block of n bytes, the channels of a group and the bytes of a channel:
 -- `at` is the place of the next byte, and how far each loop is says whose byte that is. Assumes nothing.
-use mathlib.Core.Path.{◌≡◌, ap, ◌∙◌}
+use mathlib.Core.Path.{◌≡◌, ◌∙◌}
 use Prim.Native.Nat.{ℕ, suc, ◌+◌, ◌-◌, ◌*◌, ◌/◌, ◌≤◌, ◌<◌, min}
 use native.Mathlib.Nat.{mul-le-mul_left}
 use native.Mathlib.Omega.{arith}
@@ -36,14 +36,11 @@ pub record Bytes (c n g ch start end at : ℕ) : Type 0 where
   pub begun : start ≤ at
   pub ended : at ≤ end
 
--- ---- from each to the next
+-- ---- from each to the next, where that does not follow by itself
 
 module _ {c n : ℕ} where
   pub groups-first : Block c n → Groups c n 0 (4 * c)
   groups-first is = record { block = is; place = omega (arith, is.enough); small = omega (arith, is.some) }
-
-  pub channels-first : (g at : ℕ) → Groups c n g at → Channels c n g 0 at
-  channels-first g at h = record { block = h.block; channel = omega arith; place = omega (arith, h.place); small = omega (arith, h.small) }
 
   pub bytes-first : (g ch at end : ℕ) → Channels c n g ch at → ch < c → (at ≡ n → ⊥) → end ≡ min (at + 4) n → Bytes c n g ch at end at
   bytes-first g ch at end h l left stop =
@@ -79,24 +76,6 @@ module _ {c n : ℕ} where
         place = omega (arith, h.ended, h.stop, h.place, l);
         small = omega (arith, h.small, h.stop, h.more, l);
       }
-
-  pub groups-next : (g ch at : ℕ) → Channels c n g ch at → c ≤ ch → Groups c n (g + 1) at
-  groups-next g ch at h l =
-      let all : ch ≡ c = omega (arith, h.channel, l) in
-      let p : at ≡ min n (4 * (c * (g + 1) + c)) = h.place ∙ ap (λ (i : ℕ). min n (4 * (c * (g + 1) + i))) all in
-      record {
-        block = h.block;
-        place = omega (arith, p);
-        small = omega (arith, h.small, l, h.block.some);
-      }
-
--- ---- the place of the next sample: that of frame 8 g + 1, and two frames on for each byte
-
-pub frames-first : (c g ch at : ℕ) → c * (8 * g + 1) + ch ≡ c * (8 * g + 1 + 2 * (at - at)) + ch
-frames-first c g ch at = let none : at - at ≡ 0 = omega arith in rw none (omega arith)
-
-pub frames-next : (c g ch start at k : ℕ) → start ≤ at → k ≡ c * (8 * g + 1 + 2 * (at - start)) + ch → k + 2 * c ≡ c * (8 * g + 1 + 2 * (at + 1 - start)) + ch
-frames-next c g ch start at k h e = let one : at + 1 - start ≡ at - start + 1 = omega (arith, h) in rw one (omega (arith, e))
 
 -- ---- a byte that is read or written
 

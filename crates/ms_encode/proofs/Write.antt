@@ -147,13 +147,6 @@ next_place out xs k j x e h l is same = subst (λ (i : ℕ). take i (set out k x
 abbrev pub four-set : List ℕ → ℕ → ℕ → ℕ → ℕ → ℕ → List ℕ
 four-set out k x y z w = set (set (set (set out k x) (k + 1) y) (k + 2) z) (k + 3) w
 
-pub four-length : (out : List ℕ) (k x y z w : ℕ) → length (four-set out k x y z w) ≡ length out
-four-length out k x y z w =
-    length-set (set (set (set out k x) (k + 1) y) (k + 2) z) (k + 3) w
-    ∙ length-set (set (set out k x) (k + 1) y) (k + 2) z
-    ∙ length-set (set out k x) (k + 1) y
-    ∙ length-set out k x
-
 four-places : (out xs : List ℕ) (k x y z w : ℕ) → k + 3 < length xs → length out ≡ length xs
     → x ≡ get_or xs k 0 → y ≡ get_or xs (k + 1) 0 → z ≡ get_or xs (k + 2) 0 → w ≡ get_or xs (k + 3) 0
     → take k out ≡ take k xs → take (k + 4) (four-set out k x y z w) ≡ take (k + 4) xs

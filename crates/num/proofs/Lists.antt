@@ -4,7 +4,7 @@ use mathlib.Core.Path.{◌≡◌, refl, sym, ap, ap₂, ◌∙◌}
 use mathlib.Core.List.{List, [], ◌∷◌, ◌++◌, map, append-nil, append_assoc}
 use Prim.Native.Nat.{ℕ, zero, suc, ◌+◌, ◌-◌, ◌<◌, ◌≤◌}
 use native.Mathlib.Omega.{arith}
-use lib.ListN.{length, get_or, set, take}
+use lib.ListN.{length, get_or, set, take, get_or-map}
 use lib.Seq.{take-suc, take-suc-set, take_all, set-get_or, ext_get_or}
 use Rattle.num.specs.Lists.{from, All}
 
@@ -100,3 +100,9 @@ module _ {X : Type 0} (f : ℕ → X) where
       sym (whole out n (omega arith))
       ∙ ap (λ (j : ℕ). take n out ++ from j n f) (sym rest)
       ∙ u
+
+-- and of what is seen of each of another list
+pub by_view : {X Y Z : Type 0} (view : Y → Z) (f : Z → X) (ys : List Y) (xs : List X) (n : ℕ) (d : Y) (x : X)
+    → length xs ≡ n → ((k : ℕ) → k < n → get_or xs k x ≡ f (view (get_or ys k d))) → xs ≡ from n 0 (λ k. f (get_or (map view ys) k (view d)))
+by_view view f ys xs n d x long at =
+    by_place (λ k. f (get_or (map view ys) k (view d))) xs n x long (λ k h. at k h ∙ ap f (sym (get_or-map view ys k d)))

@@ -1,17 +1,14 @@
--- What the tests of a record say where they hold, so that one that fails is enough; and the place that its block then has. Assumes nothing.
-use mathlib.Core.Path.{◌≡◌, refl, sym, ap, ◌∙◌}
-use mathlib.Core.Bool.{true, false, ◌&&◌, and-eq-true_iff}
+-- What the tests of a record say where they hold, and the place that its block then has. Assumes nothing.
+use mathlib.Core.Path.{◌≡◌, refl}
+use mathlib.Core.Bool.{true, ◌&&◌, and-eq-true_iff}
 use mathlib.Core.List.{List}
-use Prim.Native.Nat.{ℕ, ◌+◌, ◌-◌, ◌≤◌}
-use native.Mathlib.Nat.{zero-add}
+use Prim.Native.Nat.{ℕ, ◌+◌, ◌≤◌}
 use native.Mathlib.Omega.{arith}
 use lib.Dec.{eqb, leb}
 use lib.ListN.{length, take, drop, length-drop}
-use lib.Seq.{take_all}
-use borrow.Author.Tests.{leb-true, eqb-true, le-leb, eq-eqb}
-use borrow.Table.Steps.{cases}
-use Rattle.text.specs.Text.{put, put_in, place_after}
-use Rattle.text.proofs.Behind.{put-taken, put_in-put, place_after-is}
+use lib.Seq.{take_at}
+use borrow.Author.Tests.{leb-true, eqb-true}
+use Rattle.text.specs.Text.{put}
 use Rattle.record.specs.Record.{length_of, version_of, block_of, well_formed}
 
 module _ (input : List ℕ) where
@@ -34,36 +31,9 @@ module _ (input : List ℕ) where
   pub enough : well_formed input ≡ true → 4 ≤ length input
   enough t = let is = formed t in omega (arith, is.some, is.whole)
 
-  pub malformed : (Formed → ⊥) → well_formed input ≡ false
-  malformed not_so = cases (well_formed input) (λ t. absurd (not_so (formed t))) (λ t. t)
-
-  -- the last test decides where the others hold
-  pub by-version : 2 ≤ length_of input → length_of input ≤ 4098 → length input ≡ 2 + length_of input → eqb (version_of input) 1 ≡ well_formed input
-  unfolding well_formed
-  by-version some few whole =
-      let n = length_of input in
-      rw (le-leb 2 n some, le-leb n 4098 few, eq-eqb (length input) (2 + n) whole) refl
-
   -- its block has room in the array, and stands there when it is put
-  module _ (is : Formed) (out : List ℕ) (size : length out ≡ 4096) where
-    fits : 0 + length (block_of input) ≤ length out
-    fits = omega (arith, length-drop 4 input, is.few, is.whole, size)
+  pub block-few : Formed → length (block_of input) ≤ 4096
+  block-few is = omega (arith, length-drop 4 input, is.few, is.whole)
 
-    pub block-few : length (block_of input) ≤ 4096
-    block-few = omega (arith, fits, size)
-
-    pub block-taken : take (length (block_of input)) (put out 0 (block_of input)) ≡ block_of input
-    block-taken = ap (λ (n : ℕ). take n (put out 0 (block_of input))) (sym (zero-add (length (block_of input)))) ∙ put-taken out 0 (block_of input) fits
-
-    -- as a part of the input, it is all behind the fourth byte
-    abbrev behind-four : List ℕ
-    behind-four = take (length input - 4) (drop 4 input)
-
-    part-is : behind-four ≡ block_of input
-    part-is = take_all (length input - 4) (drop 4 input) (omega (arith, length-drop 4 input))
-
-    pub part-place : place_after out 0 behind-four ≡ length (block_of input)
-    part-place = ap (place_after out 0) part-is ∙ place_after-is out 0 (block_of input) fits ∙ zero-add (length (block_of input))
-
-    pub part-put : put_in out 0 behind-four ≡ put out 0 (block_of input)
-    part-put = ap (put_in out 0) part-is ∙ put_in-put out 0 (block_of input) fits
+  pub block-taken : (out : List ℕ) → take (length (block_of input)) (put out 0 (block_of input)) ≡ block_of input
+  block-taken out = take_at (block_of input) (drop (0 + length (block_of input)) out) (length (block_of input)) refl

@@ -2,6 +2,7 @@
 use Rattle.std.specs.Prelude.{Bool, cond, ◌&&◌, List, ℕ, ◌+◌, ◌*◌, eqb, leb, length, get_or, drop}
 use Rattle.num.specs.Outcome.{Outcome, outcome_by}
 use Rattle.text.specs.Text.{put}
+use Rattle.record.specs.declared.Record.{Record}
 
 -- Two bytes big-endian, the length of all that follows, 2 to 4,098; version byte 1; channel byte; the block.
 abbrev pub length_of : List ℕ → ℕ
@@ -25,3 +26,7 @@ well_formed input = leb 2 (length_of input) && leb (length_of input) 4098 && eqb
 unfoldable pub read_record : List ℕ → List ℕ → Outcome (ℕ × ℕ) (List ℕ)
 read_record input out =
     outcome_by (cond (well_formed input) 0 4) ((channels_of input, length (block_of input)), put out 0 (block_of input)) ((0, 0), out)
+
+-- What the struct of the code says.
+abbrev pub record_in : Record → ℕ × ℕ
+record_in read = (read.channels, read.length)

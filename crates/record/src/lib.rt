@@ -1,39 +1,34 @@
 // The record that the program `repack` reads.
 #![tactic(auto)]
 
-ghost use Rattle.std.specs.Prelude.{◌≡◌, ◌+◌, ◌*◌};
-ghost use Rattle.num.specs.Outcome.{outcome};
-ghost use Rattle.record.specs.Record.{well_formed, read_record};
+ghost use Rattle.std.specs.Prelude.{◌≡◌};
+ghost use Rattle.refusal.specs.Refusal.{answered};
+ghost use Rattle.record.specs.Record.{record_in, well_formed, read_record};
 
-use text::put;
+use halves::join;
+use refusal::Refusal;
 
-// `refusal` is 0 for done, or 4; `length` says how much of the array is the block.
+// `length` says how much of the array is the block. (A slice of the input would say both, but `read` promises what the array holds.)
 #[derive(Drop)]
 pub struct Record {
-    pub refusal: u8,
     pub channels: u8,
     pub length: usize,
 }
 
 #[tactic(auto, using(crate::proofs::Formed::enough))]
-pub fn read(input: &[u8], block: &mut [u8; 4096]) -> Record
-    ensures { outcome result.refusal (result.channels, result.length) block.new ≡ read_record input.now block.old }
+pub fn read(input: &[u8], block: &mut [u8; 4096]) -> Result<Record, Refusal>
+    ensures { answered record_in (0, 0) result block.new ≡ read_record input.now block.old }
 {
-    if well_formed(input) {
-        let channels = input[3];
-        let length = put(block, 0, &input[4..]);
-        Record {
-            refusal: 0,
-            channels,
-            length,
-        }
-    } else {
-        Record {
-            refusal: 4,
-            channels: 0,
-            length: 0,
-        }
+    if !well_formed(input) {
+        return Err(Refusal::Record);
     }
+    let given = &input[4..];
+    let length = given.len();
+    block[..length].copy_from_slice(given);
+    Ok(Record {
+        channels: input[3],
+        length,
+    })
 }
 
 // That four bytes are there is tested first; then a length below 2 is not that of the input.
@@ -45,19 +40,5 @@ fn well_formed(input: &[u8]) -> bool
         return false;
     }
     let rest = join(input[0], input[1]);
-    if 4098 < rest {
-        return false;
-    }
-    if input.len() == 2 + rest {
-        input[2] == 1
-    } else {
-        false
-    }
-}
-
-// The number that two bytes are, the high one first.
-fn join(high: u8, low: u8) -> usize
-    ensures { result ≡ 256 * high + low }
-{
-    256 * (high as usize) + (low as usize)
+    rest <= 4098 && input.len() == 2 + rest && input[2] == 1
 }

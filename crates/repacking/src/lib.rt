@@ -8,7 +8,7 @@ ghost use Rattle.adpcm_ima.specs.View.{state_of};
 ghost use Rattle.ms_block.specs.Header.{head_of};
 ghost use Rattle.ms_block.specs.Block.{bytes_in};
 ghost use Rattle.ms_repacked.specs.Private.{Alike, Upto};
-ghost use Rattle.ms_repacked.specs.Repack.{repacked, any_change, repack_ms};
+ghost use Rattle.ms_repacked.specs.Repack.{repack_ms};
 
 use adpcm_ima::{AdpcmImaState, IMA_STEP_TABLE};
 use halves::{bits_of, high_half, low_half, pack};
@@ -19,7 +19,7 @@ use ms_reading::check_headers;
 use refusal::Refusal;
 
 // What comes back is whether any byte changed. The headers are asked about after the lengths, and a refusal leaves the buffer alone.
-#[tactic(auto, using(ms_repacked::proofs::Unlike::differ, ms_repacked::proofs::Theorems::allowed, ms_reading::proofs::Refused::by_lengths, ms_reading::proofs::Refused::by_headers, ms_reading::proofs::Refused::by_none), unfolding(ms_repacked::specs::Repack::repack_ms))]
+#[tactic(auto, using(ms_repacked::proofs::Theorems::allowed, ms_reading::proofs::Refused::by_lengths, ms_reading::proofs::Refused::by_headers), unfolding(ms_repacked::specs::Repack::repack_ms))]
 pub fn repack_adpcm_ima_ms(
     reading: Reading,
     channels: u8,
@@ -30,17 +30,11 @@ pub fn repack_adpcm_ima_ms(
 {
     check_repack(channels, block.len(), out.len())?;
     check_headers(reading, channels, block)?;
-    repack_channels(channels as usize, block, out);
-    Ok(block != out)
-}
-
-fn repack_channels(c: usize, block: &[u8], out: &mut [u8])
-    requires { Alike c block.now out.old }
-    ensures { out.new ≡ repacked c block.now }
-{
+    let c = channels as usize;
     for ch in 0..c {
         channel(c, ch, block, out);
     }
+    Ok(block != out)
 }
 
 // One channel. What it reads and what it writes may part where a nibble cannot be reached.

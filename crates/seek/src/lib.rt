@@ -84,6 +84,7 @@ fn state_in(index: &[u8], i: usize) -> AdpcmImaState
 }
 
 // The state behind whole blocks, each decoded to samples that nobody keeps.
+#[tactic(auto, unfolding(ima4_block::specs::Run::run))]
 fn state_behind(buf: &[u8], state: AdpcmImaState) -> AdpcmImaState
     ensures { state_of result ≡ state_before (state_of state) buf.now (length buf.now / 34) }
 {

@@ -1,13 +1,12 @@
 -- The loss report as three numbers that the caller lends. Assumes nothing.
-use Rattle.std.specs.Prelude.{List, ℕ, ℤ}
-use Rattle.std.proofs.Math.Option.{Option, none, some}
+use Rattle.std.specs.Prelude.{List, Option, None, Some, ℕ, ℤ}
 use Rattle.num.specs.Outcome.{Outcome, outcome_by}
 use Rattle.loss.specs.Loss.{Report, report, loss_report}
 
 -- UINT32_MAX for none
 abbrev pub or_max : Option ℕ → ℕ
-or_max none = 4294967295
-or_max (some k) = k
+or_max None = 4294967295
+or_max (Some k) = k
 
 abbrev pub numbers_of : Report (Option ℕ) → Report ℕ
 numbers_of r = report r.count (or_max r.first) r.peak

@@ -5,16 +5,17 @@ ghost use Rattle.std.specs.Prelude.{◌≡◌, length};
 ghost use Rattle.num.specs.Outcome.{outcome};
 ghost use Rattle.ima_nibble.specs.Step.{state, sixteen, stepped, emitted};
 ghost use Rattle.ima_nibble.specs.Table.{ima_steps};
+ghost use Rattle.adpcm_ima.specs.View.{state_of};
 ghost use Rattle.ima4_block.specs.Call.{decode_ima4_run, encode_ima4_run};
 ghost use Rattle.seek_index.specs.Call.{index_ima4, reindex_ima4, decode_ima4_from};
-ghost use Rattle.loss.specs.Loss.{place_of, report};
+ghost use Rattle.loss.specs.Loss.{report};
 ghost use Rattle.ms_block.specs.declared.Reading.TheVariants.{Strict, Lenient};
 ghost use Rattle.ms_block.specs.Call.{encode_ms};
 ghost use Rattle.ms_block.specs.Sizes.{most};
 ghost use Rattle.sprettuhol.specs.Decode.{decode_call};
-ghost use Rattle.sprettuhol.specs.Loss.{or_max, loss_call};
+ghost use Rattle.sprettuhol.specs.Loss.{loss_call};
 ghost use Rattle.sprettuhol.specs.Repack.{number_of, repack_call};
-ghost use Rattle.sprettuhol.specs.Told.{told};
+ghost use Rattle.sprettuhol.specs.Told.{seen, stored};
 ghost use Rattle.sprettuhol.specs.Version.{version};
 ghost use Rattle.channels.specs.States.{states_of};
 ghost use Rattle.g711.specs.Law.{mu_law, a_law, sample_of, code_of};
@@ -23,12 +24,13 @@ use adpcm_ima::AdpcmImaState;
 use channels::{clipped_of, predictors_of, states_of, step_indices_of};
 use ima4_decode::decode_adpcm_ima_ima4_run;
 use ima4_encode::encode_adpcm_ima_ima4_run;
-use loss::{First, loss_report};
-use ms_decode::decode_adpcm_ima_ms_lenient;
+use loss::loss_report;
+use ms_block::Reading;
+use ms_decode::decode_adpcm_ima_ms;
 use ms_encode::encode_adpcm_ima_ms;
 use ms_layout::MOST;
-use ms_strict::{decode_adpcm_ima_ms, repack_adpcm_ima_ms};
-use repacking::{Answer, repack_adpcm_ima_ms_lenient};
+use refusal::{Refusal, hear, number_in};
+use repacking::repack_adpcm_ima_ms;
 use seek::{decode_adpcm_ima_ima4_from, index_adpcm_ima_ima4, reindex_adpcm_ima_ima4};
 
 // The header has it too, and so has the Cargo.toml of the Rust crate.
@@ -79,16 +81,9 @@ pub extern "C" fn spr_decode_adpcm_ima(
 ) -> i16
     ensures { (result ≡ predictor.new) × (state predictor.new step_index.new clipped.new ≡ stepped sixteen ima_steps (state predictor.old step_index.old clipped.old) nibble) }
 {
-    let before = AdpcmImaState {
-        predictor: *predictor,
-        step_index: *step_index,
-        clipped: *clipped,
-    };
+    let before = state(*predictor, *step_index, *clipped);
     let decoded = before.decode(nibble);
-    let next = decoded.state.predictor;
-    *predictor = next;
-    *step_index = decoded.state.step_index;
-    *clipped = decoded.state.clipped;
+    store(decoded.state, predictor, step_index, clipped);
     decoded.sample
 }
 
@@ -101,16 +96,9 @@ pub extern "C" fn spr_encode_adpcm_ima(
 ) -> u8
     ensures { (result ≡ emitted sixteen ima_steps (state predictor.old step_index.old clipped.old) sample) × (state predictor.new step_index.new clipped.new ≡ stepped sixteen ima_steps (state predictor.old step_index.old clipped.old) result) }
 {
-    let before = AdpcmImaState {
-        predictor: *predictor,
-        step_index: *step_index,
-        clipped: *clipped,
-    };
+    let before = state(*predictor, *step_index, *clipped);
     let encoded = before.encode(sample);
-    let next = encoded.state.predictor;
-    *predictor = next;
-    *step_index = encoded.state.step_index;
-    *clipped = encoded.state.clipped;
+    store(encoded.state, predictor, step_index, clipped);
     encoded.nibble
 }
 
@@ -125,17 +113,10 @@ pub extern "C" fn spr_decode_ima4(
 ) -> u8
     ensures { outcome result (state predictor.new step_index.new clipped.new) samples.new ≡ decode_ima4_run (state predictor.old step_index.old clipped.old) bytes.now samples.old }
 {
-    let before = AdpcmImaState {
-        predictor: *predictor,
-        step_index: *step_index,
-        clipped: *clipped,
-    };
-    let decoded_run = decode_adpcm_ima_ima4_run(bytes, before, samples);
-    let next = decoded_run.state.predictor;
-    *predictor = next;
-    *step_index = decoded_run.state.step_index;
-    *clipped = decoded_run.state.clipped;
-    decoded_run.refusal
+    let before = state(*predictor, *step_index, *clipped);
+    let (number, next) = hear(decode_adpcm_ima_ima4_run(bytes, before, samples));
+    store(next, predictor, step_index, clipped);
+    number
 }
 
 #[unsafe(no_mangle)]
@@ -148,17 +129,10 @@ pub extern "C" fn spr_encode_ima4(
 ) -> u8
     ensures { outcome result (state predictor.new step_index.new clipped.new) bytes.new ≡ encode_ima4_run (state predictor.old step_index.old clipped.old) samples.now bytes.old }
 {
-    let before = AdpcmImaState {
-        predictor: *predictor,
-        step_index: *step_index,
-        clipped: *clipped,
-    };
-    let encoded_run = encode_adpcm_ima_ima4_run(samples, before, bytes);
-    let next = encoded_run.state.predictor;
-    *predictor = next;
-    *step_index = encoded_run.state.step_index;
-    *clipped = encoded_run.state.clipped;
-    encoded_run.refusal
+    let before = state(*predictor, *step_index, *clipped);
+    let (number, next) = hear(encode_adpcm_ima_ima4_run(samples, before, bytes));
+    store(next, predictor, step_index, clipped);
+    number
 }
 
 // A seek index beside a run. The run's bytes are refused by 3, and then k, the record or the place by 5; nothing is written then.
@@ -173,24 +147,17 @@ pub extern "C" fn spr_ima4_index(
 ) -> u8
     ensures { outcome result (state predictor.new step_index.new clipped.new) «record».new ≡ index_ima4 (state predictor.old step_index.old clipped.old) bytes.now every «record».old }
 {
-    let before = AdpcmImaState {
-        predictor: *predictor,
-        step_index: *step_index,
-        clipped: *clipped,
-    };
-    let indexed_run = index_adpcm_ima_ima4(bytes, before, every, record);
-    let next = indexed_run.state.predictor;
-    *predictor = next;
-    *step_index = indexed_run.state.step_index;
-    *clipped = indexed_run.state.clipped;
-    indexed_run.refusal
+    let before = state(*predictor, *step_index, *clipped);
+    let (number, next) = hear(index_adpcm_ima_ima4(bytes, before, every, record));
+    store(next, predictor, step_index, clipped);
+    number
 }
 
 #[unsafe(no_mangle)]
 pub extern "C" fn spr_ima4_reindex(bytes: &[u8], from: usize, record: &mut [u8]) -> u8
     ensures { outcome result tt «record».new ≡ reindex_ima4 bytes.now from «record».old }
 {
-    reindex_adpcm_ima_ima4(bytes, from, record)
+    number_in(reindex_adpcm_ima_ima4(bytes, from, record))
 }
 
 // The state is written only. Samples that do not fit are refused by 3, after all else.
@@ -206,14 +173,13 @@ pub extern "C" fn spr_decode_ima4_from(
 ) -> u8
     ensures { outcome result (state predictor.new step_index.new clipped.new) samples.new ≡ decode_ima4_from (state predictor.old step_index.old clipped.old) bytes.now «record».now from samples.old }
 {
-    let decoded_rest = decode_adpcm_ima_ima4_from(bytes, record, from, samples);
-    if decoded_rest.refusal == 0 {
-        let next = decoded_rest.state.predictor;
-        *predictor = next;
-        *step_index = decoded_rest.state.step_index;
-        *clipped = decoded_rest.state.clipped;
+    match decode_adpcm_ima_ima4_from(bytes, record, from, samples) {
+        Ok(next) => {
+            store(next, predictor, step_index, clipped);
+            0
+        }
+        Err(refusal) => refusal.number(),
     }
-    decoded_rest.refusal
 }
 
 // One MS block. Channel numbers that are not taken are refused by 1, then lengths by 2, and then a step index above 88 in a header by 8; nothing is
@@ -227,7 +193,8 @@ pub extern "C" fn spr_decode_ms(
 ) -> u8
     ensures { outcome result clipped.new samples.new ≡ decode_call Strict channels block.now samples.old clipped.old }
 {
-    tell_clipped(decode_adpcm_ima_ms(channels, block, samples), clipped)
+    let counts = decode_adpcm_ima_ms(Reading::Strict, channels, block, samples);
+    tell(counts, clipped)
 }
 
 // The same, but for an index above 88, which is lowered.
@@ -240,22 +207,8 @@ pub extern "C" fn spr_decode_ms_lenient(
 ) -> u8
     ensures { outcome result clipped.new samples.new ≡ decode_call Lenient channels block.now samples.old clipped.old }
 {
-    tell_clipped(
-        decode_adpcm_ima_ms_lenient(channels, block, samples),
-        clipped,
-    )
-}
-
-// Stores the counts, unless the call was refused.
-fn tell_clipped(answer: ms_decode::Answer, clipped: &mut [u32; MOST]) -> u8
-    ensures { outcome result clipped.new tt ≡ told answer.refusal answer.clipped clipped.old }
-{
-    if answer.refusal != 0 {
-        return answer.refusal;
-    }
-    let counts = answer.clipped;
-    *clipped = counts;
-    0
+    let counts = decode_adpcm_ima_ms(Reading::Lenient, channels, block, samples);
+    tell(counts, clipped)
 }
 
 // The states are read and written through three numbers each, for all eight channels.
@@ -272,12 +225,11 @@ pub extern "C" fn spr_encode_ms(
     ensures lengths { (length predictors.new ≡ most) × (length step_indices.new ≡ most) × (length clipped.new ≡ most) }
 {
     let before = states_of(*predictors, *step_indices, *clipped);
-    let encoded_block = encode_adpcm_ima_ms(channels, samples, before, block);
-    let after = encoded_block.states;
+    let (number, after) = hear(encode_adpcm_ima_ms(channels, samples, before, block));
     *predictors = predictors_of(after);
     *step_indices = step_indices_of(after);
     *clipped = clipped_of(after);
-    encoded_block.refusal
+    number
 }
 
 // A block decoded and encoded again, into a second buffer of equal length. It is read as in decoding.
@@ -290,7 +242,8 @@ pub extern "C" fn spr_repack_ms(
 ) -> u8
     ensures { outcome result changed.new repacked.new ≡ repack_call Strict channels block.now repacked.old changed.old }
 {
-    tell_change(repack_adpcm_ima_ms(channels, block, repacked), changed)
+    let change = repack_adpcm_ima_ms(Reading::Strict, channels, block, repacked);
+    tell(as_number(change), changed)
 }
 
 #[unsafe(no_mangle)]
@@ -302,20 +255,8 @@ pub extern "C" fn spr_repack_ms_lenient(
 ) -> u8
     ensures { outcome result changed.new repacked.new ≡ repack_call Lenient channels block.now repacked.old changed.old }
 {
-    tell_change(
-        repack_adpcm_ima_ms_lenient(channels, block, repacked),
-        changed,
-    )
-}
-
-// Stores whether a byte changed, unless the call was refused.
-fn tell_change(answer: Answer, changed: &mut u8) -> u8
-    ensures { outcome result changed.new tt ≡ told answer.refusal (number_of answer.changed) changed.old }
-{
-    if answer.refusal == 0 {
-        *changed = answer.changed as u8;
-    }
-    answer.refusal
+    let change = repack_adpcm_ima_ms(Reading::Lenient, channels, block, repacked);
+    tell(as_number(change), changed)
 }
 
 // The loss report. Lengths that do not fit are refused by 2, and then nothing is stored.
@@ -330,23 +271,53 @@ pub extern "C" fn spr_loss(
 ) -> u8
     ensures { outcome result (report count.new first.new peak.new) tt ≡ loss_call before.now after.now (report count.old first.old peak.old) }
 {
-    let report = loss_report(before, after);
-    if report.refusal != 0 {
-        return report.refusal;
+    match loss_report(before, after) {
+        Ok(loss) => {
+            *count = loss.count;
+            *first = loss.first.unwrap_or(u32::MAX);
+            *peak = loss.peak;
+            0
+        }
+        Err(refusal) => refusal.number(),
     }
-    let place = report.first;
-    *count = report.count;
-    *first = or_max(place);
-    *peak = report.peak;
-    0
 }
 
-// The place, or UINT32_MAX for none.
-fn or_max(first: First) -> u32
-    ensures { result ≡ or_max (place_of first) }
+// The three numbers that stand for a state on the C side, as a state,
+fn state(predictor: i16, step_index: u8, clipped: u32) -> AdpcmImaState
+    ensures { state_of result ≡ state predictor step_index clipped }
 {
-    match first {
-        First::At(k) => k,
-        First::Nowhere => 4294967295,
+    AdpcmImaState {
+        predictor,
+        step_index,
+        clipped,
+    }
+}
+
+// and a state as these three.
+fn store(next: AdpcmImaState, predictor: &mut i16, step_index: &mut u8, clipped: &mut u32)
+    ensures { state predictor.new step_index.new clipped.new ≡ state_of next }
+{
+    *predictor = next.predictor;
+    *step_index = next.step_index;
+    *clipped = next.clipped;
+}
+
+// Whether a block changed, as the number that C reads.
+fn as_number(change: Result<bool, Refusal>) -> Result<u8, Refusal>
+    ensures { result ≡ seen number_of change }
+{
+    change.map(u8::from)
+}
+
+// Stores what a call tells, unless it is refused, and hands back its number.
+fn tell<T: Drop>(answer: Result<T, Refusal>, place: &mut T) -> u8
+    ensures { (result, place.new) ≡ stored place.old answer }
+{
+    match answer {
+        Ok(told) => {
+            *place = told;
+            0
+        }
+        Err(refusal) => refusal.number(),
     }
 }

@@ -1,9 +1,11 @@
--- Bytes in hex have two digits each: how long they are, and the two that stand for a byte. Assumes nothing.
-use mathlib.Core.Path.{◌≡◌, refl}
-use mathlib.Core.List.{List, [], ◌∷◌}
-use Prim.Native.Nat.{ℕ, zero, suc, ◌+◌, ◌*◌, ◌/◌, ◌%◌, ◌<◌}
+-- Bytes in hex have two digits each: how long they are, and the two behind those of the bytes before. Assumes nothing.
+use mathlib.Core.Path.{◌≡◌, refl, ap}
+use mathlib.Core.List.{List, [], ◌∷◌, ◌++◌}
+use Prim.Native.Nat.{ℕ, ◌+◌, ◌*◌, ◌/◌, ◌%◌, ◌<◌}
 use native.Mathlib.Omega.{arith}
-use lib.ListN.{length, get_or}
+use native.Mathlib.Numerals.{add-one}
+use lib.ListN.{length, get_or, take}
+use lib.Seq.{take-suc}
 use Rattle.text.specs.Text.{digit, hex}
 
 pub hex-length : (bytes : List ℕ) → length (hex bytes) ≡ 2 * length bytes
@@ -11,18 +13,14 @@ unfolding hex
 hex-length [] = refl
 hex-length (b ∷ bytes) = omega (arith, hex-length bytes)
 
-pub high_digit : (bytes : List ℕ) (i : ℕ) → i < length bytes → get_or (hex bytes) (2 * i) 0 ≡ digit (get_or bytes i 0 / 16)
+hex-one : (bytes : List ℕ) (b : ℕ) → hex (bytes ++ (b ∷ [])) ≡ hex bytes ++ (digit (b / 16) ∷ (digit (b % 16) ∷ []))
 unfolding hex
-high_digit [] i h = absurd (omega arith)
-high_digit (b ∷ bytes) zero h = refl
-high_digit (b ∷ bytes) (suc i) h =
-    let two : 2 * suc i ≡ suc (suc (2 * i)) = omega arith in
-    rw two (high_digit bytes i (omega arith))
+hex-one [] b = refl
+hex-one (a ∷ bytes) b = ap (λ (ds : List ℕ). digit (a / 16) ∷ (digit (a % 16) ∷ ds)) (hex-one bytes b)
 
-pub low_digit : (bytes : List ℕ) (i : ℕ) → i < length bytes → get_or (hex bytes) (2 * i + 1) 0 ≡ digit (get_or bytes i 0 % 16)
-unfolding hex
-low_digit [] i h = absurd (omega arith)
-low_digit (b ∷ bytes) zero h = refl
-low_digit (b ∷ bytes) (suc i) h =
-    let two : 2 * suc i + 1 ≡ suc (suc (2 * i + 1)) = omega arith in
-    rw two (low_digit bytes i (omega arith))
+pub hex-more : (bytes : List ℕ) (i high low : ℕ)
+    → i < length bytes
+    → high ≡ digit (get_or bytes i 0 / 16)
+    → low ≡ digit (get_or bytes i 0 % 16)
+    → hex (take (i + 1) bytes) ≡ hex (take i bytes) ++ (high ∷ (low ∷ []))
+hex-more bytes i high low h high-is low-is = rw (add-one i, take-suc bytes i 0 h, high-is, low-is) (hex-one (take i bytes) (get_or bytes i 0))

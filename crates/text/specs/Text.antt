@@ -2,6 +2,7 @@
 use Rattle.std.specs.Prelude.{◌≡◌, Bool, cond, List, [] as nothing, ◌∷◌ as ◌then◌, ◌++◌, ℕ, zero, suc, ◌+◌, ◌-◌, ◌/◌, ◌%◌, ltb, leb, length, take, drop}
 use Prim.Native.Char.{code}
 use Prim.Native.String.{String, [], ◌∷◌}
+use Rattle.text.specs.declared.Sheet.{Sheet}
 
 -- The bytes of a text.
 abbrev pub ascii : String → List ℕ
@@ -48,3 +49,7 @@ place_after out at text = cond (has_room out at text) (at + length text) at
 -- A text that was put at a place, and the place behind it.
 abbrev pub Stands : List ℕ → ℕ → List ℕ → ℕ → List ℕ → Type 0
 Stands out at text place buffer = (place ≡ at + length text) × (buffer ≡ put out at text)
+
+-- Text put on a sheet: the buffer is the same one, and the text is put in it at the place of the sheet.
+abbrev pub Puts : List ℕ → Sheet → Sheet → Type 0
+Puts text old new = (new.out.ghost_name ≡ old.out.ghost_name) × (new.at ≡ place_after old.out.now old.at text) × (new.out.now ≡ put_in old.out.now old.at text)

@@ -3,5 +3,5 @@ use Rattle.std.proofs.Common.{rules}
 use Rattle.text.proofs.Decimal.{ten-digits}
 use Rattle.lines.proofs.put_place.Goals as goal
 
-pub returns-in-At : goal.returns-in-At
-returns-in-At c = rw c.in-At.is (c.put_decimal.ensures.0, c.put_decimal.ensures.1, ten-digits _ (search rules))
+pub returns-in-Some : goal.returns-in-Some
+returns-in-Some c = rw c.in-Some.is (c.put_decimal.ensures, ten-digits _ (search rules))

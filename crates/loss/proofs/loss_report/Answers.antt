@@ -1,22 +1,13 @@
 -- The two tests are the definition's, and behind them what was seen of the places is what is reported. Assumes nothing.
-use Rattle.std.proofs.Common.{length, refl, arith}
-use mathlib.Core.Logic.{⊎_elim}
-use lib.Dec.{eqb}
-use borrow.Author.Tests.{lt-leb, ne_eqb}
-use borrow.Table.Steps.{cases}
+use Rattle.std.proofs.Common.{arith, rules}
+use borrow.Author.Tests.{tests}
 use Rattle.loss.specs.Loss.{loss_report}
 use Rattle.loss.proofs.Places.{reports}
 use Rattle.loss.proofs.loss_report.Goals as goal
 
 pub returns-then-n-after : goal.returns-then-n-after
 unfolding loss_report
-returns-then-n-after c =
-    let n = length c.args.before.now in
-    let m = length c.args.after.now in
-    ⊎_elim
-    (λ other. rw (ne_eqb n m (λ e. omega arith)) refl)
-    (λ more. cases (eqb n m) (λ e. rw (e, lt-leb n 131063 (omega arith)) refl) (λ e. rw e refl))
-    c.then-n-after.either
+returns-then-n-after c = search (rules, tests)
 
 pub returns : goal.returns
 returns c =

@@ -1,6 +1,6 @@
 -- A byte gives two samples of its channel, at their places, and moves that channel's state alone; between the bytes the loops only pass on from
 -- whom to whom.
-use Rattle.std.proofs.Common.{◌≡◌, ◌∙◌, ℕ, ◌+◌, ◌-◌, ◌*◌, ◌/◌, ◌%◌, ◌<◌, map, length, get_or, set, ℤ, refl, sym, ap, subst, arith, rules, length-set}
+use Rattle.std.proofs.Common.{◌≡◌, ◌∙◌, ℕ, ◌+◌, ◌-◌, ◌*◌, ◌/◌, ◌%◌, ◌<◌, map, length, get_or, ℤ, refl, sym, ap, subst, arith, rules, length-set}
 use Rattle.std.proofs.lemmas.List.{length-map}
 use mir.Syntax.{w16}
 use mir.Val.{SFits, to_z, of_z}
@@ -26,7 +26,6 @@ block-init c =
     record {
       upto = first a.c (omega (arith, is.some)) a.buf.now a.out_samples.now (map wide_of a.heads) c.requires.1;
       place = rw zeroth (groups-first (subst (Shape a.c (length a.buf.now)) is.fits is));
-      long = is.fits;
       size = search rules;
     }
 
@@ -38,7 +37,6 @@ loop-i-init c =
     record {
       upto = subst (Upto a.c a.buf.now c.loop-ch.at c.loop-ch.out_samples) (map-kept wide_of c.loop-ch.wides ch zero_wide) inv.upto;
       place = bytes-first c.in-Some.g ch c.loop-ch.at c.min-end.result inv.place (omega arith) c.if-at-n.false c.min-end.ensures;
-      long = inv.long;
       size = inv.size;
     }
 
@@ -50,12 +48,12 @@ places {c} {n} {g} {ch} w l =
     (k-is, omega (arith, k-is, room w l))
 
 pub bounds-out_samples-k : goal.bounds-out_samples-k
-bounds-out_samples-k c = let inv = c.loop-i.invariant in omega (arith, places inv.place (omega arith))
+bounds-out_samples-k c = let inv = c.loop-i.invariant in omega (arith, places inv.place (omega arith), shape c.args.c _ _ c.requires.0)
 
 pub bounds-out_samples-k-in-loop-i : goal.bounds-out_samples-k-in-loop-i
 bounds-out_samples-k-in-loop-i c =
     let inv = c.loop-i.invariant in
-    omega (arith, places inv.place (omega arith), length-set {A = ℤ})
+    omega (arith, places inv.place (omega arith), shape c.args.c _ _ c.requires.0, length-set {A = ℤ})
 
 pub loop-i-preserved : goal.loop-i-preserved
 unfolding ima_steps
@@ -83,13 +81,13 @@ loop-i-preserved c =
     let y = to_z w16 (of_z w16 pair.second) in
     let next = state y index.result pair.clipped in
     let next-is = behind ima_steps wide (byte % 16) (byte / 16) y index.result pair.clipped (to_z-of_z w16 _ s ∙ second_is) index.ensures clipped-is in
+    let long : length out ≡ 2 * length a.buf.now - 7 * a.c = omega (arith, shape a.c _ _ c.requires.0) in
     let some : ch < length wides = omega (arith, w.channel, w.block.few, length-map c.loop-ch.wides wide_of, inv.size) in
     record {
       upto =
           byte-turn a.c (omega (arith, w.channel)) a.buf.now w h k out wides wide between next x y
-          (places w h).0 inv.long some refl next-is (to_z-of_z w16 _ f ∙ first-is) refl inv.upto;
+          (places w h).0 long some refl next-is (to_z-of_z w16 _ f ∙ first-is) refl inv.upto;
       place = bytes_next g ch start c.min-end.result i w h;
-      long = length-set (set out k _) (k + a.c) _ ∙ length-set out k _ ∙ inv.long;
       size = inv.size;
     }
 
@@ -102,7 +100,6 @@ loop-ch-preserved c =
     record {
       upto = rw (map-set wide_of wides ch c.loop-i.wide, ← all) inv.upto;
       place = rw (← all) (channels-next c.in-Some.g ch c.loop-ch.at c.min-end.result c.loop-i.i inv.place (omega arith));
-      long = inv.long;
       size = length-set wides ch c.loop-i.wide ∙ inv.size;
     }
 
@@ -113,5 +110,6 @@ returns-then-at-n c =
     let inv = c.loop-ch.invariant in
     let is = inv.place.block in
     let wides = map wide_of c.loop-ch.wides in
-    ends a.c (omega (arith, is.some)) a.buf.now c.loop-ch.out_samples wides (subst (Shape a.c n) (sym inv.long) is)
+    let long : 2 * n - 7 * a.c ≡ length c.loop-ch.out_samples = omega (arith, shape a.c _ _ c.requires.0) in
+    ends a.c (omega (arith, is.some)) a.buf.now c.loop-ch.out_samples wides (subst (Shape a.c n) long is)
     (subst (λ (p : ℕ). Upto a.c a.buf.now p c.loop-ch.out_samples wides) c.if-at-n.true inv.upto)

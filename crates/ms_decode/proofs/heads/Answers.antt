@@ -1,5 +1,5 @@
 -- An iteration reads one channel's header.
-use Rattle.std.proofs.Common.{◌≡◌, ◌<◌, ◌∙◌, ℕ, map, length, refl, sym, ap, subst, arith, rules, length-set}
+use Rattle.std.proofs.Common.{◌≡◌, ◌<◌, ◌∙◌, ℕ, map, length, refl, sym, ap, arith, rules, length-set}
 use Rattle.std.proofs.lemmas.List.{length-map}
 use mir.Syntax.{w16}
 use mir.Val.{SFits, to_z, of_z}
@@ -9,7 +9,7 @@ use Rattle.num.proofs.Lists.{all-at, all_from, map-set}
 use Rattle.ima_nibble.specs.Step.{State, zero_state}
 use Rattle.ima_step.specs.View.{wide_of}
 use Rattle.ms_block.specs.Sizes.{most}
-use Rattle.ms_block.proofs.Sizes.{Shape, shape, samples-all}
+use Rattle.ms_block.proofs.Sizes.{shape, samples-all}
 use Rattle.ms_block.proofs.OwnBytes.{head-is}
 use Rattle.ms_decode.proofs.Read.{heads-turn}
 use Rattle.ms_decode.proofs.heads.Goals as goal
@@ -27,7 +27,6 @@ loop-ch-init c =
         others = λ e l. all-at (λ (st : State). st.clipped ≡ 0) (from most 0 (λ (k : ℕ). zero)) e zero_state refl all;
       };
       shape = shape a.c (length a.buf.now) (length a.out_samples.now) c.requires;
-      same = refl;
       size = refl;
     }
 
@@ -42,12 +41,11 @@ loop-ch-preserved c =
     let wide = c.from-wide.result in
     let x = to_z w16 (of_z w16 wide.predictor) in
     let f : SFits w16 wide.predictor = search rules in
-    let long = length-set out ch x in
-    let st-is = c.from-wide.ensures.0 ∙ c.head-in-loop-ch.ensures ∙ sym (head-is a.buf.now inv.shape ch h) in
-    let turn = heads-turn a.c a.buf.now ch out (map wide_of wides) (wide_of wide) x (omega (arith, samples-all inv.shape)) (omega (arith, inv.shape.few, length-map wides wide_of)) st-is (to_z-of_z w16 _ f) inv.headed in
+    let is = inv.shape in
+    let st-is = c.from-wide.ensures.0 ∙ c.head-in-loop-ch.ensures ∙ sym (head-is a.buf.now is ch h) in
+    let turn = heads-turn a.c a.buf.now ch out (map wide_of wides) (wide_of wide) x (omega (arith, samples-all is)) (omega (arith, is.few, length-map wides wide_of)) st-is (to_z-of_z w16 _ f) inv.headed in
     record {
       headed = rw (map-set wide_of wides ch wide) turn;
-      shape = subst (Shape a.c (length a.buf.now)) (sym long) inv.shape;
-      same = long ∙ inv.same;
+      shape = is;
       size = length-set wides ch wide ∙ inv.size;
     }

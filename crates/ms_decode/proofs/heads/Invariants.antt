@@ -9,7 +9,6 @@ use Rattle.ms_decode.proofs.heads.Given as goal
 abbrev pub invariant-loop-ch : goal.invariant-loop-ch
 invariant-loop-ch l = record {
   headed : Headed l.c l.buf l.ch l.out_samples (map wide_of l.wides);
-  shape : Shape l.c (length l.buf) (length l.out_samples);
-  same : length l.out_samples ≡ length l.initial.out_samples;
+  shape : Shape l.c (length l.buf) (length l.initial.out_samples);
   size : length l.wides ≡ most;
 }

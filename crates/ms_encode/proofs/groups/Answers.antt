@@ -1,5 +1,5 @@
 -- Two samples of a channel give the byte at its place, and move that channel's state alone; between the bytes the loops only pass on from whom to whom.
-use Rattle.std.proofs.Common.{◌≡◌, map, length, ℕ, ◌*◌, ◌+◌, ◌-◌, ◌<◌, pos, ◌∙◌, sym, ap, ap₂, subst, refl, rules, arith, get_or}
+use Rattle.std.proofs.Common.{◌≡◌, map, length, ℕ, ◌*◌, ◌+◌, ◌-◌, ◌<◌, pos, ◌∙◌, sym, ap, ap₂, subst, rules, arith, get_or}
 use Rattle.std.proofs.lemmas.Int.{to_z-of_z}
 use mir.Syntax.{w16}
 use mir.Val.{SFits, to_z, of_z}
@@ -35,8 +35,6 @@ block-init c =
     record {
       written = first a.c (omega (arith, is.some)) a.samples.now (map state_of a.starts) a.out_buf.now c.requires.1;
       walk = rw zeroth (groups-first (subst (Shape a.c (length a.out_buf.now)) is.fits is));
-      samples = is.fits;
-      size = refl;
       some = some;
     }
 
@@ -50,17 +48,15 @@ loop-i-init c =
     record {
       written = subst (Upto c.args.c c.args.samples.now (map state_of c.args.starts) loop.at loop.out_buf) kept inv.written;
       walk = bytes-first c.in-Some.g ch loop.at c.min-end.result inv.walk (omega arith) left c.min-end.ensures;
-      samples = inv.samples;
-      size = inv.size;
       some = inv.some;
       low = c.from-wide.ensures.1;
     }
 
 pub bounds-samples-k : goal.bounds-samples-k
-bounds-samples-k c = let inv = c.loop-i.invariant in omega (arith, inv.samples, places inv.walk (omega arith))
+bounds-samples-k c = let inv = c.loop-i.invariant in omega (arith, shape c.args.c _ _ c.requires.0, places inv.walk (omega arith))
 
 pub bounds-samples-k-in-loop-i : goal.bounds-samples-k-in-loop-i
-bounds-samples-k-in-loop-i c = let inv = c.loop-i.invariant in omega (arith, inv.samples, places inv.walk (omega arith))
+bounds-samples-k-in-loop-i c = let inv = c.loop-i.invariant in omega (arith, shape c.args.c _ _ c.requires.0, places inv.walk (omega arith))
 
 pub loop-i-preserved : goal.loop-i-preserved
 unfolding ima_steps
@@ -90,15 +86,14 @@ loop-i-preserved c =
     let one-is = one.ensures.2 ∙ ap (stepped sixteen ima_steps w) one.ensures.0 in
     let two-is = two.ensures.2 ∙ ap (stepped sixteen ima_steps mid) two.ensures.0 in
     let some : ch < length (map state_of states) = omega (arith, inv.walk.channel, inv.walk.block.few, length-map states state_of, inv.some) in
-    let is = subst (Shape a.c (length a.out_buf.now)) (sym inv.samples) inv.walk.block in
+    let is = shape a.c (length a.out_buf.now) (length samples) c.requires.0 in
+    let size : length loop.out_buf ≡ length a.out_buf.now = omega arith in
     let byte-is : byte.result ≡ 16 * two.result.nibble + one.result.nibble = byte.ensures ∙ omega (arith, one.ensures.1, two.ensures.1) in
     record {
       written =
-          byte-turn samples (map state_of a.starts) is inv.walk h k loop.out_buf (map state_of states) w mid end x y byte.result inv.size some
+          byte-turn samples (map state_of a.starts) is inv.walk h k loop.out_buf (map state_of states) w mid end x y byte.result size some
           placed.0 (to_z-of_z w16 _ f) (to_z-of_z w16 _ s) one-is two-is (byte-is ∙ ap₂ (λ (v u : ℕ). 16 * v + u) two.ensures.0 one.ensures.0) inv.written;
       walk = bytes_next g ch start c.min-end.result i inv.walk h;
-      samples = inv.samples;
-      size = length-set loop.out_buf i byte.result ∙ inv.size;
       some = inv.some;
       low = moved-lt ima_steps mid end two.result.nibble two.ensures.2;
     }
@@ -115,8 +110,6 @@ loop-ch-preserved c =
     record {
       written = rw (← all) (subst (Upto c.args.c c.args.samples.now (map state_of c.args.starts) loop.i loop.out_buf) back inv.written);
       walk = rw (← all) (channels-next c.in-Some.g ch c.loop-ch.at c.min-end.result loop.i inv.walk (omega arith));
-      samples = inv.samples;
-      size = inv.size;
       some = length-set states ch c.narrow.result ∙ inv.some;
     }
 
@@ -127,6 +120,7 @@ returns-then-at-n c =
     let inv = loop.invariant in
     let starts = map state_of a.starts in
     let states = map state_of loop.states in
-    let is = subst (Shape a.c (length a.out_buf.now)) (sym inv.samples) inv.walk.block in
+    let is = shape a.c (length a.out_buf.now) (length a.samples.now) c.requires.0 in
+    let size : length loop.out_buf ≡ length a.out_buf.now = omega arith in
     let all : loop.at ≡ length a.out_buf.now = omega arith in
-    ends a.samples.now starts is loop.out_buf states (subst (λ (p : ℕ). Upto a.c a.samples.now starts p loop.out_buf states) all inv.written) inv.size (length-map loop.states state_of ∙ inv.some)
+    ends a.samples.now starts is loop.out_buf states (subst (λ (p : ℕ). Upto a.c a.samples.now starts p loop.out_buf states) all inv.written) size (length-map loop.states state_of ∙ inv.some)

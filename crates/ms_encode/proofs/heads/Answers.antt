@@ -1,5 +1,5 @@
 -- A turn writes one channel's header, and sets its predictor.
-use Rattle.std.proofs.Common.{◌≡◌, map, length, ℕ, ◌*◌, ◌/◌, ◌<◌, ℤ, pos, ◌∙◌, sym, ap, ap₂, subst, rules, arith, get_or}
+use Rattle.std.proofs.Common.{◌≡◌, map, length, ℕ, ◌/◌, ◌<◌, ℤ, pos, ◌∙◌, sym, ap, ap₂, subst, rules, arith, get_or}
 use Rattle.std.proofs.lemmas.Int.{to_z-of_z}
 use mir.Syntax.{w16}
 use mir.Val.{SFits}
@@ -8,8 +8,8 @@ use lib.ListN.{length-set, length-map, get_or-map}
 use Rattle.num.proofs.Lists.{map-set}
 use Rattle.ima_nibble.specs.Step.{State, reloaded}
 use Rattle.adpcm_ima.specs.View.{state_of, zeroed}
-use Rattle.ms_block.proofs.Sizes.{Shape, shape}
-use Rattle.ms_encode.proofs.Write.{Begun, begun_first, begun-turn, begun_all, four-length}
+use Rattle.ms_block.proofs.Sizes.{shape}
+use Rattle.ms_encode.proofs.Write.{Begun, begun_first, begun-turn, begun_all}
 use Rattle.ms_encode.proofs.heads.Goals as goal
 
 pub loop-ch-init : goal.loop-ch-init
@@ -37,9 +37,8 @@ loop-ch-preserved c =
     let high-is : high.result ≡ bits.result / 256 = high.ensures ∙ omega (arith, bits.ensures.1) in
     let f : SFits w16 (get_or samples ch (pos 0)) = search rules in
     let first = to_z-of_z w16 _ f in
-    let is = subst (λ (k : ℕ). Shape a.c k (length samples)) loop.auto.out_buf inv.shape in
+    let is = inv.shape in
     let some : ch < length (map state_of states) = omega (arith, is.few, length-map states state_of) in
-    let long = four-length out (4 * ch) low.result high.result st.step_index 0 in
     let own = get_or-map state_of states ch zeroed in
     let turn =
     begun-turn samples (map state_of a.given) is ch out (map state_of states) bits.result st.step_index (state_of c.reload.result) (omega arith) loop.auto.out_buf some
@@ -49,7 +48,7 @@ loop-ch-preserved c =
     inv.written in
     record {
       written = rw (map-set state_of states ch c.reload.result, low.ensures, high-is) turn;
-      shape = subst (λ (k : ℕ). Shape a.c k (length samples)) (sym long) inv.shape;
+      shape = is;
       some = length-set states ch c.reload.result ∙ inv.some;
     }
 

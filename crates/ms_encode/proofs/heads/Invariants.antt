@@ -9,6 +9,6 @@ use Rattle.ms_encode.proofs.heads.Given as goal
 abbrev pub invariant-loop-ch : goal.invariant-loop-ch
 invariant-loop-ch l = record {
   written : Begun l.c l.samples (map state_of l.fn.given) l.ch l.out_buf (map state_of l.states);
-  shape : Shape l.c (length l.out_buf) (length l.samples);
+  shape : Shape l.c (length l.initial.out_buf) (length l.samples);
   some : length l.states ≡ most;
 }

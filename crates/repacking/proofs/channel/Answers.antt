@@ -1,7 +1,7 @@
 -- A byte is read by one state and written by another, and no other place is touched.
-use Rattle.std.proofs.Common.{◌≡◌, ℕ, suc, ◌+◌, ◌*◌, ◌/◌, ◌%◌, refl, sym, ap, ◌∙◌, subst, get_or, arith, rules, w16, FitsSigned, to_z, of_z}
+use Rattle.std.proofs.Common.{◌≡◌, length, ℕ, suc, ◌+◌, ◌*◌, ◌/◌, ◌%◌, refl, sym, ap, ◌∙◌, subst, get_or, arith, rules, w16, FitsSigned, to_z, of_z}
 use Rattle.std.proofs.Math.Facts.{to_z-of_z}
-use Rattle.std.proofs.Math.ListN.{set, length-set}
+use Rattle.std.proofs.Math.ListN.{set}
 use Rattle.ima_nibble.specs.Step.{state, sixteen, stepped, emitted}
 use Rattle.ima_nibble.specs.Table.{ima_steps}
 use Rattle.ima_step.specs.View.{wide_of}
@@ -17,7 +17,6 @@ loop-d-init c =
     let made = c.header.ensures in
     record {
       midway = start c.args.block.now is c.args.ch c.requires.1 c.header.new.out (wide_of c.from-reads.result) (c.from-reads.ensures.0 ∙ made.0) made.1;
-      same_length = c.header.auto.out ∙ c.requires.0.1;
     }
 
 pub loop-d-preserved : goal.loop-d-preserved
@@ -45,11 +44,11 @@ loop-d-preserved c =
     let packed : written.result ≡ 16 * second.result.nibble + first.result.nibble = written.ensures ∙ omega (arith, first.ensures.1, second.ensures.1) in
     let next : suc loop.d ≡ loop.d + 1 = omega arith in
     let Behind : ℕ → ℕ → Type 0 = λ d byte. Midway a.c a.block.now a.ch d (set loop.out p byte) after (wide_of second.result.next) in
+    let same : length loop.out ≡ length a.block.now = omega arith in
     let once =
     turn a.block.now is a.ch c.requires.1 loop.d byte first.result.nibble second.result.nibble loop.out
     read between after write (wide_of first.result.next) (wide_of second.result.next)
-    (omega arith) (omega arith) loop.invariant.same_length refl refl after_is first-is first.ensures.2 second.ensures.0 second.ensures.2 loop.invariant.midway in
+    (omega arith) (omega arith) same refl refl after_is first-is first.ensures.2 second.ensures.0 second.ensures.2 loop.invariant.midway in
     record {
       midway = subst (λ (d : ℕ). Behind d written.result) next (subst (Behind (suc loop.d)) (sym packed) once);
-      same_length = length-set loop.out p written.result ∙ loop.invariant.same_length;
     }

@@ -1,15 +1,10 @@
 -- A turn decodes a block, of which the state alone counts.
-use Rattle.std.proofs.Common.{◌∙◌, ◌/◌, length, refl, rules, arith}
+use Rattle.std.proofs.Common.{◌∙◌, ◌/◌, length, rules, arith}
 use Rattle.refusal.proofs.Done.{handed-done}
 use Rattle.adpcm_ima.specs.View.{state_of}
-use Rattle.ima4_block.specs.Run.{run}
 use Rattle.ima4_block.proofs.Theorems.{decode-fits}
 use Rattle.seek_index.proofs.Turn.{next-state}
 use Rattle.seek.proofs.state_behind.Goals as goal
-
-pub loop-i-init : goal.loop-i-init
-unfolding run
-loop-i-init c = refl
 
 pub unwrap-next-requires : goal.unwrap-next-requires
 unwrap-next-requires c =

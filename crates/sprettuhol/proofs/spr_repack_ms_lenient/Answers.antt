@@ -4,4 +4,4 @@ use Rattle.sprettuhol.proofs.Told.{told-change}
 use Rattle.sprettuhol.proofs.spr_repack_ms_lenient.Goals as goal
 
 pub returns : goal.returns
-returns c = told-change Lenient _ _ _ _ _ _ _ _ _ c.repack_adpcm_ima_ms_lenient.ensures c.tell_change.ensures
+returns c = told-change Lenient _ _ _ _ _ _ _ _ _ c.repack_adpcm_ima_ms-change.ensures c.as_number.ensures c.tell.ensures

@@ -2,7 +2,7 @@
 use Rattle.std.proofs.Common.{ℕ, ◌/◌, ◌++◌, drop, slice_set, ap, ◌∙◌, arith, length-set}
 use Rattle.text.specs.Text.{decimal, put_in, place_after}
 use Rattle.text.proofs.Decimal.{tenth, not_last, first-digit, next-digit}
-use Rattle.text.proofs.put_decimal.Goals as goal
+use Rattle.text.proofs.Sheet.put_decimal.Goals as goal
 
 pub loop-rest-preserved : goal.loop-rest-preserved
 loop-rest-preserved c =
@@ -23,9 +23,9 @@ loop-rest-preserved c =
 
 pub returns : goal.returns
 returns c =
-    let a = c.args in
+    let s = c.args.self.now in
     let l = c.loop-rest in
     let last = c.digit-2 in
     let is = first-digit l.digits l.first last.result (omega arith) 10 l.rest l.invariant.size (omega arith) last.ensures ∙ l.invariant.digits in
-    let (place, buffer) = c.put.ensures in
-    (place ∙ ap (place_after a.out.now a.at) is, buffer ∙ ap (put_in a.out.now a.at) is)
+    let (same, place, buffer) = c.put.ensures in
+    (same, place ∙ ap (place_after s.out.now s.at) is, buffer ∙ ap (put_in s.out.now s.at) is)

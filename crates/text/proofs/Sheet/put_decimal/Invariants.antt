@@ -1,7 +1,7 @@
 -- A turn takes the last digit of what is left, so what is left and then the digits behind it is the number. Assumes nothing.
 use Rattle.std.proofs.Common.{◌≡◌, suc, ◌^◌, ◌<◌, ◌++◌, length, drop}
 use Rattle.text.specs.Text.{decimal}
-use Rattle.text.proofs.put_decimal.Given as goal
+use Rattle.text.proofs.Sheet.put_decimal.Given as goal
 
 abbrev pub invariant-loop-rest : goal.invariant-loop-rest
 invariant-loop-rest l = record {
