@@ -8,7 +8,8 @@ use std::io;
 use std::io::Read;
 
 // Reads until `buf` is full or the input ends, and answers how many bytes it put at the start of `buf`. What a read leaves behind its own
-// bytes is not known, so that nothing is said of the rest of `buf`.
+// bytes is not known, so that nothing is said of the rest of `buf`. (Of the library's methods, `read_exact` does not say how many bytes there
+// were, and `read_to_end` needs a heap.)
 pub fn read_full<R: Read>(input: &mut R, buf: &mut [u8]) -> io::Result<usize>
     ensures room { length buf.new ≡ length buf.old }
     ensures within { IfOk result (λ n. n ≤ length buf.new) }

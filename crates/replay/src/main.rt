@@ -27,7 +27,7 @@ fn main(rt: HostRuntime) -> io::Result<()> {
     };
     let mut text = [0u8; 131072];
     let n = read_full(&mut file, &mut text)?;
-    if n == 131072 {
+    if n == text.len() {
         println!(rt; "the list is too long")
     } else {
         replay(&rt, &text[..n])
