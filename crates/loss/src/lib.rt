@@ -18,6 +18,7 @@ pub struct Loss {
 }
 
 // Two runs of equal length, 0 to 131,063. Any others are refused by 2.
+#[tactic(auto, unfolding(crate::specs::Loss::loss_report))]
 pub fn loss_report(before: &[i16], after: &[i16]) -> Result<Loss, Refusal>
     ensures { answered report_in (report 0 None 0) result tt ≡ loss_report before.now after.now }
 {

@@ -15,7 +15,7 @@ pub struct Record {
     pub length: usize,
 }
 
-#[tactic(auto, using(crate::proofs::Formed::enough))]
+#[tactic(auto, using(crate::proofs::Formed::enough), unfolding(crate::specs::Record::read_record))]
 pub fn read(input: &[u8], block: &mut [u8; 4096]) -> Result<Record, Refusal>
     ensures { answered record_in (0, 0) result block.new ≡ read_record input.now block.old }
 {

@@ -6,10 +6,6 @@ use Rattle.record.specs.Record.{channels_of, read_record}
 use Rattle.record.proofs.Formed.{formed, block-few}
 use Rattle.record.proofs.read.Goals as goal
 
-pub returns-then-not-well_formed : goal.returns-then-not-well_formed
-unfolding read_record
-returns-then-not-well_formed c = rw (sym c.well_formed-2.ensures ∙ c.if-not-well_formed.true) refl
-
 pub slice_bounds-copy_from_slice-end : goal.slice_bounds-copy_from_slice-end
 slice_bounds-copy_from_slice-end c =
     let input = c.args.input.now in
