@@ -39,10 +39,10 @@ decoded n few r st bytes old new b s e =
     handed-0 new (decode_ima4_run st bytes old) (rw (are, le-leb n 1024 few, eq-eqb (length bytes) (34 * n) b, eq-eqb (length old) (64 * n) s) refl) r e
 
 -- two blocks indexed, block by block
-pub indexed : (r : Result AdpcmImaState (Refused AdpcmImaState)) (st : State) (bytes old new : List ℕ) → length bytes ≡ 68 → length old ≡ 10
+pub index-done : (r : Result AdpcmImaState (Refused AdpcmImaState)) (st : State) (bytes old new : List ℕ) → length bytes ≡ 68 → length old ≡ 10
     → handed state_of r new ≡ index_ima4 st bytes 1 old → IsOk r
 unfolding index_ima4
-indexed r st bytes old new b s e = handed-0 new (index_ima4 st bytes 1 old) (rw (b, s) refl) r e
+index-done r st bytes old new b s e = handed-0 new (index_ima4 st bytes 1 old) (rw (b, s) refl) r e
 
 -- and the second block decoded by way of that index
 pub by_index : (r : Result AdpcmImaState (Refused AdpcmImaState)) (q : Result AdpcmImaState Refusal) (st : State) (bytes old index : List ℕ) (out new : List ℤ)

@@ -2,7 +2,7 @@
 use adpcm_ima::AdpcmImaState;
 use std::fmt;
 
-pub(crate) fn state(predictor: i16, index: u8) -> AdpcmImaState {
+pub(crate) fn make(predictor: i16, index: u8) -> AdpcmImaState {
     AdpcmImaState::new().reload(predictor, index)
 }
 

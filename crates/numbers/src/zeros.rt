@@ -1,16 +1,16 @@
 // Ima4 blocks whose nibbles are all 0. The last two numbers are an easy slip: lowered before it is compared with the header's 88, an
 // index of 200 would keep its state, as 88 does.
-use crate::state::{Shown, state};
+use crate::state::{Shown, make};
 use adpcm_ima::AdpcmImaState;
 use ima4_decode::decode_adpcm_ima_ima4;
 use std::io;
 
 pub(crate) fn show(rt: &impl Print) -> io::Result<()> {
     for predictor in [100, 127, 128, -128] {
-        zero(rt, state(predictor, 0))?;
+        zero(rt, make(predictor, 0))?;
     }
     for index in [88, 200] {
-        header_88(rt, state(100, index))?;
+        header_88(rt, make(100, index))?;
     }
     Ok(())
 }

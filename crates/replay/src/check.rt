@@ -23,40 +23,40 @@ pub(crate) fn is_same(call: Call, line: &mut Fields) -> Option<bool> {
 
 fn decode_nibble(line: &mut Fields) -> Option<bool> {
     let nibble = line.byte()?;
-    let decoded = line.state()?.decode(nibble);
+    let decoded = line.take_state()?.decode(nibble);
     let sample = line.sample()?;
-    let after = line.state()?;
+    let after = line.take_state()?;
     Some(decoded.sample == sample && is_recorded(decoded.state, after))
 }
 
 fn encode_nibble(line: &mut Fields) -> Option<bool> {
     let sample = line.sample()?;
-    let encoded = line.state()?.encode(sample);
+    let encoded = line.take_state()?.encode(sample);
     let nibble = line.byte()?;
-    let after = line.state()?;
+    let after = line.take_state()?;
     Some(encoded.nibble == nibble && is_recorded(encoded.state, after))
 }
 
 fn decode_block(line: &mut Fields) -> Option<bool> {
-    let before = line.state()?;
+    let before = line.take_state()?;
     let mut samples = [0i16; 64];
     let decoded = decode_adpcm_ima_ima4(line.take::<34>()?, before, &mut samples);
-    let recorded = samples_of(line.take()?);
-    let after = line.state()?;
+    let recorded = samples_in(line.take()?);
+    let after = line.take_state()?;
     Some(decoded.is_ok_and(|state| samples == recorded && is_recorded(state, after)))
 }
 
 fn encode_block(line: &mut Fields) -> Option<bool> {
-    let before = line.state()?;
-    let samples = samples_of(line.take()?);
+    let before = line.take_state()?;
+    let samples = samples_in(line.take()?);
     let mut block = [0u8; 34];
     let encoded = encode_adpcm_ima_ima4(&samples, before, &mut block);
     let recorded = line.take::<34>()?;
-    let after = line.state()?;
+    let after = line.take_state()?;
     Some(encoded.is_ok_and(|state| block == *recorded && is_recorded(state, after)))
 }
 
-fn samples_of(bytes: &[u8; 128]) -> [i16; 64] {
+fn samples_in(bytes: &[u8; 128]) -> [i16; 64] {
     array::from_fn(|i| i16::from_be_bytes([bytes[2 * i], bytes[2 * i + 1]]))
 }
 

@@ -24,7 +24,7 @@ impl<'a> Fields<'a> {
     }
 
     // A state is its predictor and its index.
-    pub(crate) fn state(&mut self) -> Option<AdpcmImaState> {
+    pub(crate) fn take_state(&mut self) -> Option<AdpcmImaState> {
         let predictor = self.sample()?;
         let index = self.byte()?;
         Some(AdpcmImaState::new().reload(predictor, index))
