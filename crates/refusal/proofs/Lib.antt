@@ -1,3 +1,4 @@
 pub mod Numbers
 pub mod Coincide
 pub mod Done
+pub mod Hears

@@ -2,7 +2,7 @@
 #![tactic(auto)]
 
 ghost use Rattle.std.specs.Prelude.{◌≡◌};
-ghost use Rattle.refusal.specs.Refusal.{number_of, number_in};
+ghost use Rattle.refusal.specs.Refusal.{refusal_number, number_in, hears};
 
 // Each with its number. 0 stands for done.
 #[derive(Clone, Copy, Debug, PartialEq, Eq)]
@@ -23,7 +23,7 @@ pub enum Refusal {
 
 impl Refusal {
     pub fn number(self) -> u8
-        ensures { result ≡ number_of self }
+        ensures { result ≡ refusal_number self }
     {
         self as u8
     }
@@ -43,5 +43,15 @@ pub fn number_in(tested: Result<(), Refusal>) -> u8
     match tested {
         Ok(()) => 0,
         Err(refusal) => refusal.number(),
+    }
+}
+
+// The number of such a call, and what comes back: what is done, or what was given.
+pub fn hear<T>(answer: Result<T, Refused<T>>) -> (u8, T)
+    ensures { result ≡ hears (λ x. x) answer }
+{
+    match answer {
+        Ok(done) => (0, done),
+        Err(refused) => (refused.refusal.number(), refused.given),
     }
 }
