@@ -64,15 +64,16 @@ module _ (out : List ℕ) (at : ℕ) where
   pub stands-none : Stands out at [] at out
   stands-none = (sym (add-zero at), sym (rw (add-zero at) (take-append-drop at out)))
 
-  pub stands-first : (t : List ℕ) (new : Sheet) → at + length t ≤ length out → new.at ≡ place_after out at t → new.out.now ≡ put_in out at t → Stands out at t new.at new.out.now
-  stands-first t new h p-is b-is = (p-is ∙ place_after-is out at t (omega (arith, h)), b-is ∙ put_in-put out at t (omega (arith, h)))
-
-  pub stands-more : (s t : List ℕ) (old new : Sheet) → at + length (s ++ t) ≤ length out → Stands out at s old.at old.out.now → Puts t old new → Stands out at (s ++ t) new.at new.out.now
-  stands-more s t old new h (place_is, buffer-is) (same, p-is, b-is) =
+  pub stands-more : (s t : List ℕ) (place p : ℕ) (buffer b : List ℕ) → at + length (s ++ t) ≤ length out → Stands out at s place buffer → p ≡ place_after buffer place t → b ≡ put_in buffer place t → Stands out at (s ++ t) p b
+  stands-more s t place p buffer b h (place_is, buffer-is) p-is b-is =
       let both = length-append s t in
       let room : at + length s ≤ length out = omega (arith, h, both) in
       let size = ap length buffer-is ∙ put-length out at s room in
-      let here : old.at + length t ≤ length old.out.now = omega (arith, h, both, size, place_is) in (
-        p-is ∙ place_after-is old.out.now old.at t (omega (arith, here)) ∙ omega (arith, both, place_is),
-        b-is ∙ put_in-put old.out.now old.at t (omega (arith, here)) ∙ ap₂ (λ (xs : List ℕ) (n : ℕ). put xs n t) buffer-is place_is ∙ put-put out at s room t,
+      let here : length t ≤ length buffer - place = omega (arith, h, both, size, place_is) in (
+        p-is ∙ place_after-is buffer place t here ∙ omega (arith, both, place_is),
+        b-is ∙ put_in-put buffer place t here ∙ ap₂ (λ (xs : List ℕ) (n : ℕ). put xs n t) buffer-is place_is ∙ put-put out at s room t,
       )
+
+  -- the same on a sheet
+  pub stands-next : (s t : List ℕ) (old new : Sheet) → at + length (s ++ t) ≤ length out → Stands out at s old.at old.out.now → Puts t old new → Stands out at (s ++ t) new.at new.out.now
+  stands-next s t old new h stands (same, p-is, b-is) = stands-more s t old.at new.at old.out.now new.out.now h stands p-is b-is

@@ -2,7 +2,7 @@
 use Rattle.std.proofs.Common.{[], ◌∷◌, take, refl, ◌∙◌, arith, length-append}
 use lib.Seq.{length-take-le, take_all}
 use Rattle.text.specs.Text.{hex}
-use Rattle.text.proofs.Behind.{not-put, was-put, stands-none, stands-more}
+use Rattle.text.proofs.Behind.{not-put, was-put, stands-none, stands-next}
 use Rattle.text.proofs.Hex.{hex-length, hex-more}
 use Rattle.text.proofs.Sheet.put_hex.Goals as goal
 
@@ -25,7 +25,7 @@ loop-byte-preserved c =
       buffer = c.put.ensures.0 ∙ l.invariant.buffer;
       stands =
           rw more
-          (stands-more s.out.now s.at before two l.self c.put.new.self
+          (stands-next s.out.now s.at before two l.self c.put.new.self
           (omega (arith, length-take-le l.byte-index bytes (omega arith), length-append before two)) l.invariant.stands c.put.ensures);
     }
 
