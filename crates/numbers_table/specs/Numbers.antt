@@ -1,6 +1,6 @@
 -- 'Numbers to hold' of the scope: those that are marked P, as one table, in the scope's order and under its words. A row has what a
 -- definition gives, and what the scope says. Each definition is the one that a call's contract equates its whole answer with, for all inputs
--- (adpcm_ima, g711, ms_strict), so what the table says of the definitions holds of the calls. Assumes nothing.
+-- (adpcm_ima, g711, ms_decode, repacking), so what the table says of the definitions holds of the calls. Assumes nothing.
 use Rattle.std.specs.Prelude.{false, List, [], ◌∷◌, ℕ, ℤ, pos, neg_ℤ}
 use Rattle.num.specs.Outcome.{outcome}
 use Rattle.g711.specs.Law.{mu_law, a_law, sample_of, code_of}
