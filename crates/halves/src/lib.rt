@@ -4,8 +4,6 @@
 ghost use Rattle.std.specs.Prelude.{◌≡◌, ◌+◌, ◌*◌, ◌/◌, ◌%◌, ◌<◌};
 ghost use Rattle.halves.specs.Halves.{bits_of, from_halves};
 
-use num::complement;
-
 // The number that two bytes are, the high one first.
 pub fn join(high: u8, low: u8) -> usize
     ensures { result ≡ high * 256 + low }
@@ -27,7 +25,7 @@ pub fn bits_of(x: i16) -> u32
     u32::from(x.cast_unsigned())
 }
 
-// The lower of the two bytes that 16 bits are.
+// The lower of the two bytes that 16 bits are. (`to_le_bytes` gives both, and says it of lists of bytes; the definitions say `% 256` and `/ 256`.)
 pub fn low_half(bits: u32) -> u8
     ensures { result ≡ bits % 256 }
 {

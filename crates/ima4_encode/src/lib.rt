@@ -32,7 +32,8 @@ pub fn encode_adpcm_ima_ima4(samples: &[i16], state: AdpcmImaState, out_buf: &mu
     Ok(AdpcmImaState::narrow(wide))
 }
 
-// 0 to 1,024 blocks, each lent onward, the state handed on.
+// 0 to 1,024 blocks, each lent onward, the state handed on. (One function for both directions would take the one-block call as a parameter, and the sizes, and no
+// longer show what is lent.)
 #[tactic(auto, unfolding(ima4_block::specs::Call::encode_ima4_run))]
 pub fn encode_adpcm_ima_ima4_run(
     samples: &[i16],

@@ -12,7 +12,7 @@ use text::Sheet;
 // The longest answer: three numbers of ten digits at most, among 22 other bytes, and a block of 4,096 bytes in hex.
 pub const ROOM: usize = 8245;
 
-// `refused N`
+// `refused N`, for every number: more than a `Refusal` has.
 pub fn put_refusal(number: u8, out: &mut [u8; ROOM]) -> usize
     ensures { Stands out.old 0 (refusal_line number) result out.new }
 {

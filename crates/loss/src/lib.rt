@@ -42,7 +42,8 @@ struct All {
     alike: usize,
 }
 
-// Stretch by stretch. The first place that differs is not looked for here, but in the one stretch that has it.
+// Stretch by stretch. The first place that differs is not looked for here, but in the one stretch that has it. (That the runs are as long stands in three clauses. A
+// struct of the two would not spare them: each asks for a bound of its own.)
 fn look(before: &[i16], after: &[i16]) -> All
     requires { (length before.now ≡ length after.now) × (length before.now ≤ 131063) }
     ensures { Sees (distances before.now after.now) result.count result.largest × (first_from result.alike (rest before.now after.now result.alike) ≡ first_of (distances before.now after.now)) × (result.alike ≤ length before.now) }

@@ -12,7 +12,7 @@ pub fn complement(x: i16) -> u32
     if x < 0 { (-1 - x) as u32 } else { x as u32 }
 }
 
-// A number below `lowest` becomes that, and one above `highest` that.
+// A number below `lowest` becomes that, and one above `highest` that. (The library's `clamp` asks that the limits are in order.)
 pub fn clamp(lowest: i32, highest: i32, x: i32) -> i32
     ensures { result ≡ Clamp.clamp lowest highest x }
 {

@@ -1,4 +1,5 @@
-// The static library: the C interface, each function with its whole contract.
+// The static library: the C interface, each function with its whole contract. Refusals are numbers here, a state is three, and a reading has a name of its own,
+// because C has them so.
 #![tactic(auto)]
 
 ghost use Rattle.std.specs.Prelude.{◌≡◌, length};
