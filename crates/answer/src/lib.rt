@@ -108,7 +108,8 @@ fn samples_of(channels: u8, block: &[u8]) -> [i16; 8185]
     out
 }
 
-// The arrays that a block and its samples sit in. What is not written there is never read, so that their lengths are all that counts.
+// The arrays that a block and its samples sit in, of fixed memory and in the scope's own form, so they are no one function over a type and a length. What is not written
+// there is never read, so that their lengths are all that counts.
 fn zero_bytes() -> [u8; 4096]
     ensures { length result ≡ 4096 }
 {

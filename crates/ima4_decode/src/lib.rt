@@ -38,7 +38,7 @@ pub fn decode_adpcm_ima_ima4(buf: &[u8], state: AdpcmImaState, out_samples: &mut
     Ok(AdpcmImaState::narrow(wide))
 }
 
-// 0 to 1,024 blocks, each lent onward, the state handed on.
+// 0 to 1,024 blocks, each lent onward, the state handed on. (The run of ima4_encode says why the two are not one.)
 #[tactic(auto, unfolding(ima4_block::specs::Call::decode_ima4_run))]
 pub fn decode_adpcm_ima_ima4_run(
     buf: &[u8],

@@ -14,7 +14,7 @@ use nibble::{Change, Place, reach_count};
 use sums::hold_both;
 
 // A predictor, an index that needs no widening before it is a place in the table, and the count of clipped steps. Any index is taken: one above 88 is
-// read as 88.
+// read as 88. Its methods are lent the table, since a caller's loop copies it once.
 #[derive(Clone, Copy)]
 pub struct Wide {
     pub predictor: i16,

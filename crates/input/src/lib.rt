@@ -18,7 +18,7 @@ pub fn read_full<R: Read>(input: &mut R, buf: &mut [u8]) -> io::Result<usize>
     ensures err { OnErr result ((n : ℕ) × Consumes (R.remaining input.old) (R.remaining input.new) (take n buf.new)) }
 {
     let mut done = 0;
-    // a count that no input reaches: each turn reads, or was interrupted
+    // a count stands for `loop`, which would have to be proved to end: only interruptions could reach it
     for _ in 0..u64::MAX {
         if done >= buf.len() {
             return Ok(done);

@@ -1,7 +1,8 @@
-// The lines that a program prints: a refusal, and what changed. Each stands at the start of the program's buffer.
+// The lines that a program prints: a refusal, and what changed. Each stands at the start of the program's buffer. It is put piece by piece, since `write!` may fail (text),
+// and into an array whose length says that there is room for all of it: at the end of a sheet some pieces would stand without the others.
 #![tactic(auto)]
 
-ghost use Rattle.std.specs.Prelude.{◌≡◌, ◌≤◌, length};
+ghost use Rattle.std.specs.Prelude.{◌≤◌, length};
 ghost use Rattle.loss.specs.Loss.{report_in};
 ghost use Rattle.text.specs.Text.{Puts, Stands};
 ghost use Rattle.lines.specs.Lines.{refusal_line, place_text, change_line};

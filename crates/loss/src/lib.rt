@@ -3,7 +3,6 @@
 
 ghost use Rattle.std.specs.Prelude.{◌≡◌, ◌<◌, ◌≤◌, length, None};
 ghost use Rattle.refusal.specs.Refusal.{answered};
-ghost use Rattle.loss.specs.Loss as Report;
 ghost use Rattle.loss.specs.Loss.{distances, first_from, first_of, report, report_in, loss_report};
 ghost use Rattle.loss.specs.Private.{rest, Sees};
 

@@ -48,7 +48,8 @@ fn heads(c: usize, buf: &[u8], out_samples: &mut [i16]) -> [Wide; MOST]
     wides
 }
 
-// Group by group, four bytes of each channel in turn. A channel's last group may be shorter.
+// Group by group, four bytes of each channel in turn. A channel's last group may be shorter. The loops and the labelled break are the scope's own form, and `at` runs on
+// from channel to channel. Where the states stand in arrays of eight beside the channel number, the memory is fixed.
 fn groups(c: usize, buf: &[u8], heads: [Wide; MOST], out_samples: &mut [i16]) -> [Wide; MOST]
     requires { Taken c (length buf.now) (length out_samples.old) × Headed c buf.now c out_samples.old (map wide_of heads) }
     ensures { (out_samples.new ≡ decoded_ms_block c buf.now) × (counts_of (map wide_of result) ≡ clipped_counts c buf.now) }

@@ -25,6 +25,7 @@ pub fn encode_adpcm_ima_ms(
     ensures { handed (map state_of) result out_buf.new ≡ encode_ms channels samples.now (map state_of states) out_buf.old }
 {
     let c = channels as usize;
+    // by hand, since `?` would need a closure that takes the states along
     if let Err(refusal) = check(c, out_buf.len(), samples.len()) {
         return Err(Refused {
             refusal,
@@ -60,7 +61,8 @@ fn heads(
     states
 }
 
-// Group by group, four bytes of each channel in turn. A channel's last group may be shorter.
+// Group by group, four bytes of each channel in turn. A channel's last group may be shorter. The loops and the labelled break are the scope's own form, and `at` runs on
+// from channel to channel. Where the states stand in arrays of eight beside the channel number, the memory is fixed.
 fn groups(
     c: usize,
     samples: &[i16],

@@ -1,4 +1,4 @@
-// The small helpers that every codec shares, each defined for all of its inputs.
+// Small helpers, and the laws that every codec shares. Each is defined for all of its inputs.
 #![tactic(auto)]
 
 ghost use Rattle.std.specs.Prelude.{◌≡◌};
@@ -30,5 +30,5 @@ pub fn clamp(lowest: i32, highest: i32, x: i32) -> i32
 pub fn outside(lowest: i32, highest: i32, x: i32) -> bool
     ensures { result ≡ Clamp.outside lowest highest x }
 {
-    if x < lowest { true } else { highest < x }
+    x < lowest || highest < x
 }

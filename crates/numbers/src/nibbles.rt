@@ -4,9 +4,18 @@ use adpcm_ima::AdpcmImaState;
 use std::io;
 
 pub(crate) fn show(rt: &impl Print) -> io::Result<()> {
+    show_decoded(rt)?;
+    show_encoded(rt)
+}
+
+fn show_decoded(rt: &impl Print) -> io::Result<()> {
     for (predictor, index, nibble) in [(0, 0, 7), (0, 0, 15), (0, 0, 8), (0, 255, 0), (0, 88, 7)] {
         print_decode(rt, make(predictor, index), nibble)?;
     }
+    Ok(())
+}
+
+fn show_encoded(rt: &impl Print) -> io::Result<()> {
     for (predictor, index, sample) in [(0, 0, 0), (0, 0, -1), (0, 0, 32767), (32758, 0, 32767)] {
         print_encode(rt, make(predictor, index), sample)?;
     }

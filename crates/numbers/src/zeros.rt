@@ -9,10 +9,8 @@ pub(crate) fn show(rt: &impl Print) -> io::Result<()> {
     for predictor in [100, 127, 128, -128] {
         zero(rt, make(predictor, 0))?;
     }
-    for index in [88, 200] {
-        header_88(rt, make(100, index))?;
-    }
-    Ok(())
+    header_88(rt, make(100, 88))?;
+    header_88(rt, make(100, 200))
 }
 
 fn zero(rt: &impl Print, from: AdpcmImaState) -> io::Result<()> {

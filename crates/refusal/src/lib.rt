@@ -1,4 +1,4 @@
-// Why a call refuses, and the numbers that callers hear.
+// Why a call refuses, and the numbers that callers hear: over C they are what a call answers, and the programs print them.
 #![tactic(auto)]
 
 ghost use Rattle.std.specs.Prelude.{◌≡◌};

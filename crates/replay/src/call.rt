@@ -26,6 +26,7 @@ pub(crate) const CALLS: [Call; 8] = [
 ];
 
 impl Call {
+    // The call of a number, or none: no other error is possible, so it is an `Option` and no `TryFrom`.
     pub(crate) fn numbered(number: u8) -> Option<Call> {
         CALLS.iter().copied().find(|call| *call as u8 == number)
     }

@@ -1,5 +1,5 @@
-// Each call made again, and whether its answer is the one that the line has. All of the line is taken before the answers are compared; one that is
-// too short has none.
+// Each call made again, and whether its answer is the one that the line has. All of the line is taken before the answers are compared; a line that is
+// too short is no call.
 use crate::call::Call;
 use crate::fields::Fields;
 use adpcm_ima::AdpcmImaState;

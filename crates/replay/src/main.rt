@@ -16,7 +16,7 @@ use list::unhex;
 use std::{fs, io};
 use tally::Tally;
 
-// A line has no more bytes than those of a block.
+// The longest lines are those of a block: the call, a state of three bytes, 34 bytes, 64 samples and a state.
 const LONGEST: usize = 169;
 
 fn main(rt: HostRuntime) -> io::Result<()> {

@@ -21,6 +21,7 @@ use seek_call::{check_from, check_index, check_place};
 pub fn index_adpcm_ima_ima4(buf: &[u8], state: AdpcmImaState, every: u8, index: &mut [u8]) -> Answer
     ensures { handed state_of result index.new ≡ index_ima4 (state_of state) buf.now every index.old }
 {
+    // by hand, since `?` would need a closure that takes the state along
     if let Err(refusal) = check_index(buf.len(), every, index.len()) {
         return Err(Refused {
             refusal,

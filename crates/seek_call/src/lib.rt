@@ -49,7 +49,7 @@ pub fn check_from(bytes: usize, index: &[u8], from: usize, samples: usize) -> Re
     }
 }
 
-// `is_run` of `ima4_call` tests this too, and goes on with the number of blocks: shared, it would be no shorter.
+// `is_run` of `ima4_call` tests this too, by a definition of its own (ima4_block). A run that is indexed has no samples beside it.
 fn are_run(bytes: usize) -> bool
     ensures { result ≡ are_run bytes }
 {

@@ -283,7 +283,7 @@ pub extern "C" fn spr_loss(
     }
 }
 
-// The three numbers that stand for a state on the C side, as a state,
+// The three numbers that stand for a state on the C side, as a state.
 fn state(predictor: i16, step_index: u8, clipped: u32) -> AdpcmImaState
     ensures { state_of result ≡ state predictor step_index clipped }
 {
@@ -294,7 +294,7 @@ fn state(predictor: i16, step_index: u8, clipped: u32) -> AdpcmImaState
     }
 }
 
-// and a state as these three.
+// A state, as these three numbers.
 fn store(next: AdpcmImaState, predictor: &mut i16, step_index: &mut u8, clipped: &mut u32)
     ensures { state predictor.new step_index.new clipped.new ≡ state_of next }
 {

@@ -1,4 +1,4 @@
-// Text put on a sheet, one behind the other. One that has no room is not put, and leaves all as it was.
+// Texts are put on a sheet, one behind the other. A text that has no room is not put, and leaves all as it was.
 #![tactic(auto)]
 
 ghost use Rattle.std.specs.Prelude.{◌≡◌, ◌<◌};
@@ -42,7 +42,7 @@ impl Sheet<'_> {
         self.put(&digits[first..]);
     }
 
-    // Bytes in upper-case hex.
+    // Bytes in upper-case hex. (As for a number: `write!` may fail.)
     pub fn put_hex(&mut self, bytes: &[u8])
         ensures { Puts (hex bytes.now) self.old self.new }
     {
