@@ -1,7 +1,7 @@
 // Two ima4 blocks that were encoded as one run and are decoded apart. The second one's header has no room
 // for the low seven bits of the predictor: a decoder that is given the state has them, one that starts
 // from a zeroed state has not, and its samples move. An index of the run has it too.
-ghost use Rattle.std.specs.Prelude.{◌<◌};
+ghost use Rattle.std.specs.Prelude.{◌<◌, ◌≤◌, length};
 
 use adpcm_ima::AdpcmImaState;
 use ima4_decode::decode_adpcm_ima_ima4_run;
@@ -56,6 +56,13 @@ fn print_compared(rt: &impl Print, name: &str, second: &[i16], samples: &[i16]) 
     for x in samples.iter().take(8) {
         print!(rt; " {x}")?;
     }
-    let moved = second.iter().zip(samples).filter(|(a, b)| a != b).count();
+    let moved = count_moved(second, samples);
     println!(rt; " .., {moved} of 64 moved")
+}
+
+// Each place counts once.
+fn count_moved(second: &[i16], samples: &[i16]) -> usize
+    ensures { result ≤ length samples.now }
+{
+    second.iter().zip(samples).filter(|(a, b)| a != b).count()
 }

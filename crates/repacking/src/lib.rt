@@ -2,13 +2,13 @@
 // nibble, with a state that reads and one that writes, so that no samples are kept.
 #![tactic(auto)]
 
-ghost use Rattle.std.specs.Prelude.{◌≡◌, ◌+◌, ◌<◌, false};
+ghost use Rattle.std.specs.Prelude.{◌≡◌, ◌+◌, ◌<◌, false, length};
 ghost use Rattle.refusal.specs.Refusal.{answered};
 ghost use Rattle.adpcm_ima.specs.View.{state_of};
 ghost use Rattle.ms_block.specs.Header.{head_of};
 ghost use Rattle.ms_block.specs.Block.{bytes_in};
 ghost use Rattle.ms_repacked.specs.Private.{Alike, Upto};
-ghost use Rattle.ms_repacked.specs.Repack.{repack_ms};
+ghost use Rattle.ms_repacked.specs.Repack.{any_change, repack_ms};
 
 use adpcm_ima::{AdpcmImaState, IMA_STEP_TABLE};
 use halves::{bits_of, high_half, low_half, pack};
@@ -34,7 +34,14 @@ pub fn repack_adpcm_ima_ms(
     for ch in 0..c {
         channel(c, ch, block, out);
     }
-    Ok(block != out)
+    Ok(any_change(block, out))
+}
+
+fn any_change(block: &[u8], out: &[u8]) -> bool
+    requires { length block.now ≡ length out.now }
+    ensures { result ≡ any_change block.now out.now }
+{
+    block != out
 }
 
 // One channel. What it reads and what it writes may part where a nibble cannot be reached.

@@ -1,7 +1,7 @@
 // Texts are put on a sheet, one behind the other. A text that has no room is not put, and leaves all as it was.
 #![tactic(auto)]
 
-ghost use Rattle.std.specs.Prelude.{◌≡◌, ◌<◌};
+ghost use Rattle.std.specs.Prelude.{◌≡◌, ◌<◌, ◌*◌, length};
 ghost use Rattle.text.specs.Text as Text;
 ghost use Rattle.text.specs.Text.{hex, decimal, Puts};
 
@@ -46,12 +46,23 @@ impl Sheet<'_> {
     pub fn put_hex(&mut self, bytes: &[u8])
         ensures { Puts (hex bytes.now) self.old self.new }
     {
-        let end = self.at.saturating_add(2 * bytes.len());
+        let n = 2 * bytes.len();
+        let end = self.at.saturating_add(n);
         if end <= self.out.len() {
-            for byte in bytes {
-                self.put(&[digit(byte / 16), digit(byte % 16)]);
-            }
+            write_hex(bytes, &mut self.out[self.at..end]);
+            self.at += n;
         }
+    }
+}
+
+// Two digits a byte. Nothing is carried from turn to turn, so the compiler takes as many bytes at once as it can.
+fn write_hex(bytes: &[u8], digits: &mut [u8])
+    requires { length digits.old ≡ 2 * length bytes.now }
+    ensures { digits.new ≡ hex bytes.now }
+{
+    for k in 0..bytes.len() {
+        digits[2 * k] = digit(bytes[k] / 16);
+        digits[2 * k + 1] = digit(bytes[k] % 16);
     }
 }
 

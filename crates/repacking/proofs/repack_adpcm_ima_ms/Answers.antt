@@ -7,7 +7,6 @@ use Rattle.ms_repacked.specs.Private.{Upto}
 use Rattle.ms_repacked.specs.Repack.{any_change, repack_ms}
 use Rattle.ms_repacked.proofs.Midway.{ends}
 use Rattle.ms_repacked.proofs.Theorems.{allowed}
-use Rattle.ms_repacked.proofs.Unlike.{differ}
 use Rattle.repacking.proofs.repack_adpcm_ima_ms.Goals as goal
 
 pub returns : goal.returns
@@ -18,5 +17,5 @@ returns c =
     let taken = allowed a.channels (length a.block.now) (length a.out.now) (sym c.in_ok-check_repack.ensures) in
     let same : length c.loop-ch.out ≡ length a.block.now = omega (arith, taken.1) in
     let new = ends a.block.now (shape _ _ _ taken.0) c.loop-ch.out same (subst (λ (e : ℕ). Upto a.channels a.block.now e 0 c.loop-ch.out) all c.loop-ch.invariant) in
-    ap₂ (outcome 0) (c.ne.ensures ∙ differ _ _ (sym same) ∙ ap (any_change a.block.now) new) new
+    ap₂ (outcome 0) (c.any_change.ensures ∙ ap (any_change a.block.now) new) new
     ∙ by_none a.reading a.channels a.block.now _ _ _ c.in_ok-check_repack.ensures c.in_ok-check_headers.ensures
